@@ -7,16 +7,16 @@ from typing import TYPE_CHECKING
 
 if TYPE_CHECKING:
     from .api.effect import Effect, InBetween, RouteChange, Sent, WayChange
-    from .api.network import Network, Unsettled
+    from .api.network import Network, NotConverged
     from .api.tables import Table, read_sweep
-    from .api.values import Cost, Delivery, Explanation, Link, Message, Node, Reason, Route, Session, Settled
+    from .api.values import Cost, Delivery, Explanation, Link, Message, Node, Reason, Route, Session, Converged
     from .network.refusals import Refusal
     from .program.mistakes import Mistake
     from .program.replies import Trace
 
 __version__ = "0.2.0"
 __all__ = ["Cost", "Delivery", "Effect", "Explanation", "InBetween", "Link", "Message", "Mistake", "Network", "Node",
-           "Reason", "Refusal", "Route", "RouteChange", "Sent", "Session", "Settled", "Table", "Trace", "Unsettled", "WayChange",
+           "Reason", "Refusal", "Route", "RouteChange", "Sent", "Session", "Converged", "Table", "Trace", "NotConverged", "WayChange",
            "read_sweep"]
 
 # Where the names of the interface are.

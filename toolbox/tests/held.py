@@ -39,7 +39,7 @@ class Held(Case):
         """The reply to one line."""
         return shared.calling.calls([(seat, line)])[0].reply
 
-    def settled(self, shared):
+    def converged(self, shared):
         """Lets the workers deliver until they have nothing to do."""
         for _ in range(1000):
             if shared.deliveries.due(0.0) != 0:

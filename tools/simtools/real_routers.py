@@ -64,7 +64,7 @@ def space(a: int) -> str:
 
 # what the program says
 
-def settle(net: Net) -> Optional[List[str]]:
+def converge(net: Net) -> Optional[List[str]]:
     """The deliveries until all queues are empty; None where there are too many of them."""
     lines: List[str] = []
     while any(net.queues.values()) and len(lines) < 5000:
@@ -319,7 +319,7 @@ def theirs(net: Net, prefixes: List[Prefix]) -> Tables:
     return {r: table(r, prefixes) for r in routers(net)}
 
 
-def settled(net: Net, prefixes: List[Prefix]) -> Tables:
+def converged(net: Net, prefixes: List[Prefix]) -> Tables:
     """The tables once all sessions are up and they stay as they are."""
     deadline = time.time() + 90
     while not are_up(net):
@@ -329,7 +329,7 @@ def settled(net: Net, prefixes: List[Prefix]) -> Tables:
     before, now = None, theirs(net, prefixes)
     while before != now:
         if time.time() > deadline:
-            raise TimeoutError("the tables do not settle")
+            raise TimeoutError("the tables do not converge")
         time.sleep(2)
         before, now = now, theirs(net, prefixes)
     return now
@@ -355,9 +355,9 @@ def compare(script: str) -> int:
     lines = pathlib.Path(script).read_text().split("\n")
     for line in lines:
         model.answer(net, line)
-    deliveries = settle(net)
+    deliveries = converge(net)
     if deliveries is None:
-        print("%s: does not settle" % script)
+        print("%s: does not converge" % script)
         return 0
     prefixes = sorted({p for _, p in net.origins} | {p for _, p, _ in net.received})
     mine, started = ours(net, lines + deliveries, prefixes), []
@@ -365,7 +365,7 @@ def compare(script: str) -> int:
     try:
         build(net)
         started = start_speakers(net)
-        real = settled(net, prefixes)
+        real = converged(net, prefixes)
     finally:
         clean(started)
     wrong = sum(differences(show(r), mine[r], real[r]) for r in routers(net))

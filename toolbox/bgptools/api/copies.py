@@ -17,7 +17,7 @@ def copy_of(run: Run) -> Run:
     except BaseException:
         made.close()
         raise
-    here, there = run.settler, made.settler
+    here, there = run.deliverer, made.deliverer
     there.is_unsure, there.waiting.knows_all = here.is_unsure, here.waiting.knows_all
     there.waiting.most = dict(here.waiting.most)
     there.waiting.chosen = {router: dict(chosen) for router, chosen in here.waiting.chosen.items()}
@@ -43,6 +43,6 @@ def _note(run: Run, line: str, reply: List[str]) -> None:
     if is_accepted(reply):
         words = words_of(line)
         run.network.take(words)
-        run.settler.after(words, reply)
+        run.deliverer.after(words, reply)
     elif reply or not run.network.names.take(line):
         raise Mistake("`%s` was accepted before, and now it is %s" % (line, reply[0] if reply else "none"))

@@ -5,8 +5,8 @@ from typing import Any, Dict, List, Optional
 
 from ..change.advertised_routes import Advert, changes
 from ..change.explanation import Explained
-from ..convergence.delivery import Settling
-from ..convergence.run import told_of, unsettled
+from ..convergence.delivery import Convergence
+from ..convergence.run import told_of, not_converged
 from ..convergence.stable_states import Found
 from ..convergence.tables_by_prefix import Tables
 from ..network.configuration import Network
@@ -22,13 +22,13 @@ from .values import Route, explanation_of, route_of, routes_of
 __all__ = ["Document", "advertisement", "effect", "explanations", "line_of", "reply", "stable_states", "tables", "text_of"]
 
 
-def convergence_of(done: Settling, names: Names) -> Dict[str, Any]:
+def convergence_of(done: Convergence, names: Names) -> Dict[str, Any]:
     """The deliveries that emptied all queues, or did not."""
-    return {"converged": done.is_settled, "order": done.order.words, "deliveries": plain(deliveries_of(done)),
+    return {"converged": done.is_converged, "order": done.order.words, "deliveries": plain(deliveries_of(done)),
             "note": told_of(done, names), "keeps_changing": done.restless}
 
 
-def reply(line: Line, told: List[str], network: Network, done: Optional[Settling]) -> Document:
+def reply(line: Line, told: List[str], network: Network, done: Optional[Convergence]) -> Document:
     """The reply to a line of a script, and the deliveries after it."""
     number = replies.refusal(told)
     is_expected = line.expected is not None and line.expected in (0, number)
@@ -39,7 +39,7 @@ def reply(line: Line, told: List[str], network: Network, done: Optional[Settling
 
 
 def explanations(router: str, prefix: str, found: List[Explained], network: Network,
-                 done: Optional[Settling]) -> Document:
+                 done: Optional[Convergence]) -> Document:
     """All routes of a router to a prefix."""
     told = [explanation_of(router, prefix, each, found, network) for each in found]
     return document("explain", router=router, prefix=prefix, routes=told, names=network.names.of,
@@ -47,7 +47,7 @@ def explanations(router: str, prefix: str, found: List[Explained], network: Netw
 
 
 def advertisement(router: str, peer: str, prefix: str, found: Advert, network: Network,
-                  done: Optional[Settling]) -> Document:
+                  done: Optional[Convergence]) -> Document:
     """What a router advertises to a peer, or why nothing."""
     chosen = found.chosen and route_of(router, str(found.chosen.source), found.chosen)
     said = found.said and route_of(peer, router, replies.Route(prefix, router, found.said))
@@ -71,9 +71,9 @@ def stable_states(script: str, found: Found) -> Document:
         {"router": router, "prefix": prefix, "route": _route(router, state.routes.get((router, prefix)))}
         for router, prefix in differing]} for state in found.states]
     endless = [{"seed": seed, "deliveries": len(done.deliveries), "period": done.period,
-                "keeps_changing": done.restless, "note": unsettled(done, found.names)}
+                "keeps_changing": done.restless, "note": not_converged(done, found.names)}
                for seed, done in found.endless.items()]
-    return document("settle", script=script, orders=found.count, states=states, not_converged=endless,
+    return document("converge", script=script, orders=found.count, states=states, not_converged=endless,
                     names=found.names.of)
 
 
@@ -81,7 +81,7 @@ def tables(script: str, found: Tables) -> Document:
     """The chosen routes of all routers, in order of router and prefix."""
     routes = [route for router in found.routers for part in found.parts
               for route in routes_of(router, part[router].decode("latin-1").splitlines() + ["end"])]
-    return document("settle", script=script, routes=routes)
+    return document("converge", script=script, routes=routes)
 
 
 def _route(router: str, told: Optional[replies.Route]) -> Optional[Route]:

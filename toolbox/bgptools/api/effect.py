@@ -8,8 +8,8 @@ from typing import Dict, Iterable, List, Optional, Tuple
 from ..change import comparison
 from ..change.effect import Outcome
 from ..change.report import text_of
-from ..convergence.delivery import Settling
-from ..convergence.run import settled_otherwise, unsettled
+from ..convergence.delivery import Convergence
+from ..convergence.run import converged_otherwise, not_converged
 from ..network.configuration import Direction
 from ..program import replies
 from ..program.replies import Trace
@@ -59,11 +59,11 @@ class InBetween:
 @dataclass(frozen=True)
 class Effect:
     """What a change does. `told` is what virtual peers are told otherwise; `loops` and `black_holes` are those of
-    `forwarding` that are new ones; `asked` are the ways that were asked for. Where it does not settle,
+    `forwarding` that are new ones; `asked` are the ways that were asked for. Where it does not converge,
     `keeps_changing` has each prefix with the routers that choose anew, and the rest is how it stood when the
     deliveries stopped. `text` is what the tool prints."""
     is_changed: bool
-    is_settled: bool
+    is_converged: bool
     routes: Table[RouteChange]
     told: Table[RouteChange]
     sessions_down: List[Direction]
@@ -111,9 +111,9 @@ class Effect:
 
 def effect_of(outcome: Outcome) -> Effect:
     """The outcome of a change."""
-    found, endless = outcome.difference, outcome.unsettled
+    found, endless = outcome.difference, outcome.not_converged
     return Effect(
-        is_changed=outcome.is_changed, is_settled=endless is None,
+        is_changed=outcome.is_changed, is_converged=endless is None,
         routes=Table((_change(router, each) for router, changes in found.routers.items() for each in changes), RouteChange),
         told=Table((_change(peer, each, router) for (router, peer), changes in found.told.items() for each in changes),
                    RouteChange),
@@ -127,13 +127,13 @@ def effect_of(outcome: Outcome) -> Effect:
 
 
 def _notes(outcome: Outcome) -> List[str]:
-    """What is told of the orders of deliveries: which was needed, or that none settles."""
-    names, endless = outcome.network.names, outcome.unsettled
-    told = [settled_otherwise(done, names) for done in [outcome.base] + outcome.done if done.first]
-    return told + ([unsettled(endless, names)] if endless else [])
+    """What is told of the orders of deliveries: which was needed, or that none converges."""
+    names, endless = outcome.network.names, outcome.not_converged
+    told = [converged_otherwise(done, names) for done in [outcome.base] + outcome.done if done.first]
+    return told + ([not_converged(endless, names)] if endless else [])
 
 
-def deliveries_of(done: Settling) -> Tuple[Delivery, ...]:
+def deliveries_of(done: Convergence) -> Tuple[Delivery, ...]:
     """What was delivered."""
     return tuple(delivery_of(*way, took) for way, took in zip(done.deliveries, done.taken))
 

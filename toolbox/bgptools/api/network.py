@@ -7,7 +7,7 @@
 ...     net.link("1.0.0.1", "2.0.0.1", 10)
 ...     net.join("1.0.0.1", "2.0.0.1")
 ...     net.origin("1.0.0.1", "10.0.0.0/8")
-...     len(net.settle().deliveries)
+...     len(net.converge().deliveries)
 ...     net.best("2.0.0.1", "10.0.0.0/8").path
 1
 '1'
@@ -22,9 +22,9 @@ from ..change.effect import Outcome
 from ..change.explanation import explain
 from ..change.transients import Watch
 from ..change.what_if import apply
-from ..convergence.delivery import Settling
+from ..convergence.delivery import Convergence
 from ..convergence.orders import NAMES, Order, named
-from ..convergence.run import Run, told_of, unsettled
+from ..convergence.run import Run, told_of, not_converged
 from ..network.configuration import ends, pair
 from ..picture.dot import dot_of
 from ..picture.observation import Known
@@ -39,7 +39,7 @@ from . import copies, values
 from .commands import Address, Commands, Prefix
 from .effect import Effect, deliveries_of, effect_of
 from .tables import Table
-from .values import Explanation, Link, Node, Route, Session, Settled
+from .values import Explanation, Link, Node, Route, Session, Converged
 
 Lines = Union[str, Iterable[str]]
 # Where a packet starts, and where it goes.
@@ -47,11 +47,11 @@ Way = Tuple[Address, Address]
 GIVEN = "lines"
 
 
-class Unsettled(Mistake):
-    """A network that does not settle: what was delivered, after how many deliveries the same state comes back (0 where
+class NotConverged(Mistake):
+    """A network that does not converge: what was delivered, after how many deliveries the same state comes back (0 where
     that was not seen), and who keeps choosing anew: prefixes, each with its routers."""
 
-    def __init__(self, text: str, done: Settling):
+    def __init__(self, text: str, done: Convergence):
         super().__init__(text.replace("--most N", "most=N"))
         self.deliveries, self.period, self.keeps_changing = deliveries_of(done), done.period, done.restless
 
@@ -60,7 +60,7 @@ class Network(Commands):
     """A network of the proved program: a run of it, which ends with `close`, or where a `with` does.
 
     It is its script: the lines that were accepted, deliveries and names among them. A name (`# name 10.0.4.1 y1`)
-    stands wherever an address is wanted. Refusal, Unsettled and any other Mistake say what is wrong."""
+    stands wherever an address is wanted. Refusal, NotConverged and any other Mistake say what is wrong."""
 
     def __init__(self) -> None:
         super().__init__(Run())
@@ -229,51 +229,51 @@ class Network(Commands):
 
     # Deliveries and changes
 
-    def settle(self, order: Optional[str] = None, seed: Optional[int] = None, most: Optional[int] = None,
-               tries_others: bool = False) -> Settled:
+    def converge(self, order: Optional[str] = None, seed: Optional[int] = None, most: Optional[int] = None,
+               tries_others: bool = False) -> Converged:
         """Delivers until all queues are empty, and says what was delivered.
 
         The order is `fair`, `router` or `drawn`, the last by a seed (1); a seed alone means it, too. Where that does
-        not settle, Unsettled is raised, and the network stands where the deliveries stopped: `at` has it from before.
+        not converge, NotConverged is raised, and the network stands where the deliveries stopped: `at` has it from before.
         With `tries_others` other orders are tried, from where it began. `most` deliveries are made at most.
 
         >>> net = Network.load("toolbox/lessons/disagree.bgp")
         >>> begin = net.step
         >>> try:
-        ...     net.settle()
-        ... except Unsettled as fault:
+        ...     net.converge()
+        ... except NotConverged as fault:
         ...     print(fault.period, fault.keeps_changing)
         8 {'203.0.113.0/24': ['1.0.0.1', '2.0.0.1']}
         >>> before = net.at(begin)
-        >>> before.settle("router").order
-        'router by router'
+        >>> before.converge(seed=3).order
+        'in the drawn order 3'
         >>> net.close(), before.close()
         (None, None)
         """
         self.run.follow(_order(order, seed), most, tries_others)
-        done, names = self.run.settle(), self.run.network.names
-        if not done.is_settled:
-            raise Unsettled(unsettled(done, names), done)
-        return Settled(done.order.words, deliveries_of(done), told_of(done, names))
+        done, names = self.run.converge(), self.run.network.names
+        if not done.is_converged:
+            raise NotConverged(not_converged(done, names), done)
+        return Converged(done.order.words, deliveries_of(done), told_of(done, names))
 
     def what_if(self, lines: Lines, trace: Iterable[Way] = (), *, order: Optional[str] = None,
                 seed: Optional[int] = None, most: Optional[int] = None, each: bool = False) -> Effect:
         """What a change of these lines would do, as the tool `what-if` tells it; this network stays as it is.
 
-        They are tried on a copy, which is settled in an order by the words of `settle`, or in another where it does
-        not; with `each` after each line. Where this network is not quiet, another copy is settled first, and is what
+        They are tried on a copy, which is converged in an order by the words of `converge`, or in another where it does
+        not; with `each` after each line. Where this network is not quiet, another copy is converged first, and is what
         they change. `trace` are packets that are followed, from a router to an address."""
         asked = [(self._at(router), self._at(to)) for router, to in map(_way, trace)]
         for router, to in asked:
             self.trace(router, to)
         changes = [self._named(line) for line in _script(lines)]
-        base, settled = self._quiet(_order(order, seed), most)
+        base, converged = self._quiet(_order(order, seed), most)
         try:
             with Run(_order(order, seed), most, tries_others=True) as after:
                 after.repeat(base.lines)
                 watch = Watch(after)
                 done = apply(watch, changes, each)
-                return effect_of(Outcome(compare(base, after, asked), watch, settled, done))
+                return effect_of(Outcome(compare(base, after, asked), watch, converged, done))
         finally:
             if base is not self._run:
                 base.close()
@@ -284,16 +284,16 @@ class Network(Commands):
             return line
         return Line(line.file, line.number, self.run.network.names.in_line(line.text), line.expected)
 
-    def _quiet(self, order: Order, most: Optional[int]) -> Tuple[Run, Settling]:
-        """This network's run where it is quiet, else that of a copy that was settled."""
+    def _quiet(self, order: Order, most: Optional[int]) -> Tuple[Run, Convergence]:
+        """This network's run where it is quiet, else that of a copy that was converged."""
         if self.quiet():
-            return self.run, Settling(order)
+            return self.run, Convergence(order)
         base = copies.copy_of(self.run)
         base.follow(order, most, True)
-        done = base.settle()
-        if not done.is_settled:
+        done = base.converge()
+        if not done.is_converged:
             base.close()
-            raise Unsettled("the base does not settle: " + unsettled(done, base.network.names), done)
+            raise NotConverged("the base does not converge: " + not_converged(done, base.network.names), done)
         return base, done
 
 

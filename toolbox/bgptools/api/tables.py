@@ -99,7 +99,7 @@ def read_sweep(path: "Union[str, os.PathLike[str]]") -> Any:
     from ..sweep.table import NUMBERS
     pandas, place = _pandas(), os.fspath(path)
     types = {"number": NUMBER, "change": TEXT, "kind": pandas.CategoricalDtype(KINDS), "single_point": TRUTH,
-             "settles": TRUTH, **dict.fromkeys(NUMBERS, NUMBER), "packets": NUMBER, "state": NUMBER, "mistake": TEXT}
+             "converges": TRUTH, **dict.fromkeys(NUMBERS, NUMBER), "packets": NUMBER, "state": NUMBER, "mistake": TEXT}
     try:
         found = pandas.read_csv(place, dtype=types, keep_default_na=False, na_values=[""])
     except (OSError, ValueError) as fault:

@@ -161,9 +161,9 @@ def cost_of(router: str, to: str, told: str) -> Optional[Cost]:
 
 
 @dataclass(frozen=True)
-class Settled:
+class Converged:
     """The deliveries that emptied all queues, and their order in words. `note` is empty, or tells that the order that
-    was asked for does not settle."""
+    was asked for does not converge."""
     order: str
     deliveries: Tuple[Delivery, ...]
     note: str

@@ -3,7 +3,7 @@ from __future__ import annotations
 
 from typing import List, Optional
 
-from ..convergence.delivery import Settling
+from ..convergence.delivery import Convergence
 from .comparison import Difference
 from .transients import Watch
 
@@ -11,14 +11,14 @@ from .transients import Watch
 class Outcome:
     """What was compared, with the deliveries that emptied the queues of the base, and those of the change."""
 
-    def __init__(self, difference: Difference, watch: Watch, base: Settling, done: List[Settling]) -> None:
+    def __init__(self, difference: Difference, watch: Watch, base: Convergence, done: List[Convergence]) -> None:
         self.difference, self.watch, self.base, self.done = difference, watch, base, done
         self.network = watch.run.network
         self.passing = watch.passing()
 
     @property
-    def unsettled(self) -> Optional[Settling]:
-        return next((done for done in self.done if not done.is_settled), None)
+    def not_converged(self) -> Optional[Convergence]:
+        return next((done for done in self.done if not done.is_converged), None)
 
     @property
     def taken(self) -> List[str]:
@@ -26,4 +26,4 @@ class Outcome:
 
     @property
     def is_changed(self) -> bool:
-        return bool(self.difference.is_any or self.passing or self.unsettled)
+        return bool(self.difference.is_any or self.passing or self.not_converged)

@@ -4,7 +4,7 @@ from __future__ import annotations
 import textwrap
 from typing import Dict, Hashable, Iterable, List, Tuple, TypeVar
 
-from ..convergence.run import settled_otherwise, unsettled
+from ..convergence.run import converged_otherwise, not_converged
 from ..program import communities
 from ..program.names import Names
 from ..program.replies import route_text, trace_text
@@ -169,8 +169,8 @@ def _messages(outcome: Outcome) -> str:
 
 def _orders(outcome: Outcome, names: Names) -> List[str]:
     """Where another order of deliveries was needed than the one that was asked for."""
-    lines = ["The base: %s." % settled_otherwise(outcome.base, names)] if outcome.base.first else []
-    return lines + ["With the change: %s." % settled_otherwise(done, names) for done in outcome.done if done.first]
+    lines = ["The base: %s." % converged_otherwise(outcome.base, names)] if outcome.base.first else []
+    return lines + ["With the change: %s." % converged_otherwise(done, names) for done in outcome.done if done.first]
 
 
 def text_of(outcome: Outcome, is_all: bool) -> str:
@@ -187,8 +187,8 @@ def text_of(outcome: Outcome, is_all: bool) -> str:
     lines += _between(outcome, names, is_all, is_whole)
     lines += [] if outcome.is_changed else ["Nothing changed."]
     lines += _orders(outcome, names)
-    if outcome.unsettled:
-        lines += ["IT DOES NOT SETTLE: %s." % unsettled(outcome.unsettled, names), "What is told above is how it stood when the deliveries stopped."]
+    if outcome.not_converged:
+        lines += ["IT DOES NOT CONVERGE: %s." % not_converged(outcome.not_converged, names, is_all), "What is told above is how it stood when the deliveries stopped."]
     else:
         lines.append(_messages(outcome))
     return "\n".join(lines) + "\n"

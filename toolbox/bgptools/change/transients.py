@@ -53,7 +53,7 @@ class Watch:
             self.sent.append(self._look(Sent(line)))
         return reply
 
-    def settled(self) -> None:
+    def converged(self) -> None:
         """Forgets what waited: all was delivered."""
         self.waiting.clear()
 
@@ -67,7 +67,7 @@ class Watch:
             self.told[way] = routes(reply)
 
     def _look(self, found: Sent) -> Sent:
-        ways = sorted(self.run.settler.suspects)
+        ways = sorted(self.run.deliverer.suspects)
         for way, reply in zip(ways, self.run.ask("queue %s %s" % way for way in ways)):
             before, now = self.waiting.get(way, []), reply[:-1]
             new = now[len(before):] if now[:len(before)] == before else now

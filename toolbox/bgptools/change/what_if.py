@@ -4,26 +4,26 @@ from __future__ import annotations
 import argparse
 from typing import List, Tuple
 
-from ..convergence.delivery import Settling
+from ..convergence.delivery import Convergence
 from ..convergence.orders import add_order, order_of
-from ..convergence.run import Run, unsettled
+from ..convergence.run import Run, not_converged
 from ..program.mistakes import Mistake
 from ..program.script import Line
 from .report import SHOWN
 from .transients import Watch
 
 
-def settled_base(lines: List[Line], chosen: argparse.Namespace) -> Tuple[Run, Settling]:
+def converged_base(lines: List[Line], chosen: argparse.Namespace) -> Tuple[Run, Convergence]:
     """The base, with all queues empty."""
     run = Run(order_of(chosen), chosen.most, tries_others=True)
     run.play(lines)
-    done = run.settle()
-    if not done.is_settled:
-        raise Mistake("the base does not settle: " + unsettled(done, run.network.names), chosen.base)
+    done = run.converge()
+    if not done.is_converged:
+        raise Mistake("the base does not converge: " + not_converged(done, run.network.names), chosen.base)
     return run, done
 
 
-def changed(base: Run, lines: List[Line], chosen: argparse.Namespace) -> Tuple[Run, Watch, List[Settling]]:
+def changed(base: Run, lines: List[Line], chosen: argparse.Namespace) -> Tuple[Run, Watch, List[Convergence]]:
     """The same network with the change."""
     run = Run(order_of(chosen), chosen.most, tries_others=True)
     run.repeat(base.lines)
@@ -31,15 +31,15 @@ def changed(base: Run, lines: List[Line], chosen: argparse.Namespace) -> Tuple[R
     return run, watch, apply(watch, lines, chosen.each)
 
 
-def apply(watch: Watch, lines: List[Line], is_each: bool) -> List[Settling]:
+def apply(watch: Watch, lines: List[Line], is_each: bool) -> List[Convergence]:
     """Makes a change in a quiet network: the deliveries that empty the queues after each of its commands, or at its end."""
     run, done = watch.run, []
     for line in lines:
         run.check(line, watch.say(line))
         if is_each and line.is_command:
-            done.append(run.settle())
-            watch.settled()
-    return done + [run.settle()]
+            done.append(run.converge())
+            watch.converged()
+    return done + [run.converge()]
 
 
 # The tool
@@ -49,7 +49,7 @@ def parser() -> argparse.ArgumentParser:
     made = argparse.ArgumentParser(prog="what-if", description=(
         "What a change does: plays BASE until all queues are empty, then CHANGE, any commands, until they are empty again, and tells what "
         "differs, router by router."),
-        epilog="Exit status: 0 nothing changed; 1 something did, or it does not settle; 2 a mistake, as a line that is refused.")
+        epilog="Exit status: 0 nothing changed; 1 something did, or it does not converge; 2 a mistake, as a line that is refused.")
     made.add_argument("base", metavar="BASE", help="the script of the network; it needs no deliveries")
     made.add_argument("change", metavar="CHANGE", help="the script of the change; - is standard input")
     made.add_argument("--trace", nargs=2, metavar=("R", "D"), action="append", default=[],

@@ -38,7 +38,7 @@ def parser() -> argparse.ArgumentParser:
         "A legend says what is what."),
         epilog="Without -o Graphviz DOT is written to standard output. In the page, keys go on and back: arrows, space, "
                "Home and End; `# step TEXT` in the script is a heading, and f makes one step of all under it; w hides "
-               "the words. Exit status: 0; 1 where the network does not settle; 2 a mistake, or a line that was refused "
+               "the words. Exit status: 0; 1 where the network does not converge; 2 a mistake, or a line that was refused "
                "without the mark `# expect refused` (the picture is made all the same).")
     made.add_argument("script", metavar="SCRIPT", help="the script; - is standard input")
     made.add_argument("--prefix", metavar="P",
@@ -52,7 +52,7 @@ def parser() -> argparse.ArgumentParser:
     made.add_argument("--hops", metavar="N", type=_count, help="how many; 1 where it is not given")
     made.add_argument("--whole", action="store_true",
                       help="all routers, also where there are more than %d; without it these are drawn as ASes" % MOST)
-    made.add_argument("--settle", action="store_true",
+    made.add_argument("--converge", action="store_true",
                       help="empty all queues after the script (with --steps: after each command)")
     made.add_argument("--steps", action="store_true",
                       help="one HTML page with a picture, the command and its replies for each step")
@@ -101,12 +101,12 @@ def _page(lines: List[Line], choice: Choice, chosen: argparse.Namespace) -> Tupl
         view = choice.view(first.network)
     _warn(view, chosen.script)
     with Run(tries_others=True) as run:
-        steps = Steps(run, view, chosen.settle, chosen.start or 0)
+        steps = Steps(run, view, chosen.converge, chosen.start or 0)
         steps.play(lines)
     for text in steps.told:
         print("%s: %s" % (chosen.script, text), file=sys.stderr)
     title = lines[0].file if lines else "an empty script"
-    return page_of(title, steps.steps, steps.scenes), 0 if steps.is_settled else CHANGED
+    return page_of(title, steps.steps, steps.scenes), 0 if steps.is_converged else CHANGED
 
 
 def _picture(lines: List[Line], choice: Choice, chosen: argparse.Namespace, kind: str) -> Tuple[bytes, int]:
@@ -115,8 +115,8 @@ def _picture(lines: List[Line], choice: Choice, chosen: argparse.Namespace, kind
         run.play(lines)
         view = choice.view(run.network)
         _warn(view, chosen.script)
-        done = run.settle() if chosen.settle else None
-        status = CHANGED if done and not done.is_settled else 0
+        done = run.converge() if chosen.converge else None
+        status = CHANGED if done and not done.is_converged else 0
         if done and told_of(done):
             print("%s: %s" % (chosen.script, told_of(done, run.network.names)), file=sys.stderr)
         scene = scene_of(run, view, view.way, {}, Known())

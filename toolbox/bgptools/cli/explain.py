@@ -7,7 +7,7 @@ from typing import List, Optional, Tuple
 
 from ..change import advertised_routes
 from ..change.explanation import explain, text_of
-from ..convergence.delivery import Settling
+from ..convergence.delivery import Convergence
 from ..convergence.orders import add_order, order_of
 from ..convergence.run import Run, told_of
 from ..program import display
@@ -22,14 +22,14 @@ def parser() -> argparse.ArgumentParser:
         "Plays SCRIPT and tells all routes of ROUTER to PREFIX: which was chosen, and against which route and by "
         "which value each other one lost. With --to, what it advertises to a peer, or why nothing."),
         epilog="Attributes are those after the import policy; of a route that is excluded, as received. Exit status: "
-               "0; 1 where the network does not settle; 2 a mistake; 3 where the program advertises other than what "
+               "0; 1 where the network does not converge; 2 a mistake; 3 where the program advertises other than what "
                "--to works out from the script.")
     made.add_argument("script", metavar="SCRIPT", help="the script; - is standard input")
     made.add_argument("router", metavar="ROUTER", help="a router's address, or its name")
     made.add_argument("prefix", metavar="PREFIX", help="a prefix, as 10.0.0.0/8")
     made.add_argument("--to", metavar="X", help="tell what ROUTER advertises to its peer X, an address or a name, and "
                                                 "what is changed on the way; or why nothing")
-    made.add_argument("--settle", action="store_true", help="empty all queues after the script")
+    made.add_argument("--converge", action="store_true", help="empty all queues after the script")
     made.add_argument("--json", action="store_true", help="tell it as JSON")
     add_order(made)
     return made
@@ -56,7 +56,7 @@ def _peer(run: Run, router: str, word: str) -> str:
     return found
 
 
-def _routes(run: Run, router: str, to: str, done: Optional[Settling], is_json: bool) -> str:
+def _routes(run: Run, router: str, to: str, done: Optional[Convergence], is_json: bool) -> str:
     """All routes of the router to the prefix."""
     found = explain(run, router, to)
     if is_json:
@@ -65,7 +65,7 @@ def _routes(run: Run, router: str, to: str, done: Optional[Settling], is_json: b
     return text_of(router, to, found, run.network)
 
 
-def _advert(run: Run, router: str, to: str, peer: str, done: Optional[Settling], is_json: bool) -> Tuple[str, int]:
+def _advert(run: Run, router: str, to: str, peer: str, done: Optional[Convergence], is_json: bool) -> Tuple[str, int]:
     """What the router advertises to a peer, and the exit status."""
     found = advertised_routes.Teller(run, router, peer).advert(to)
     told = advertised_routes.text_of(router, peer, to, found, run.network.names)
@@ -82,7 +82,7 @@ def main(words: Optional[List[str]] = None) -> int:
         run.play(read(chosen.script))
         router, to = _check(run, chosen.router, chosen.prefix)
         peer = None if chosen.to is None else _peer(run, router, chosen.to)
-        done = run.settle() if chosen.settle else None
+        done = run.converge() if chosen.converge else None
         names, status = run.network.names, 0
         if peer is None:
             text = _routes(run, router, to, done, chosen.json)
@@ -94,4 +94,4 @@ def main(words: Optional[List[str]] = None) -> int:
             display.show(text)
     if done and told_of(done):
         print("%s: %s" % (chosen.script, told_of(done, names)), file=sys.stderr)
-    return status or (CHANGED if done and not done.is_settled else 0)
+    return status or (CHANGED if done and not done.is_converged else 0)

@@ -5,9 +5,9 @@ import argparse
 import sys
 from typing import List, Optional
 
-from ..convergence.delivery import Settling
+from ..convergence.delivery import Convergence
 from ..convergence.run import Run
-from ..convergence.transcript import kept_back, tell, tell_settling
+from ..convergence.transcript import kept_back, tell, tell_convergence
 from ..network.refusals import sentence
 from ..program import display
 from ..program.language import readable
@@ -64,16 +64,16 @@ def explain(line: Line, reply: List[str], run: Run) -> None:
         display.show(PAD + "-- it was expected to be refused\n")
 
 
-def tell_as_json(line: Line, reply: List[str], run: Run, done: Optional[Settling]) -> None:
+def tell_as_json(line: Line, reply: List[str], run: Run, done: Optional[Convergence]) -> None:
     """Prints the reply to a command as a line of JSON. What makes it is imported here: a script as text needs none."""
     from ..api import documents
     if line.is_command:
         sys.stdout.write(documents.line_of(documents.reply(line, reply, run.network, done)))
 
 
-def play(lines: List[Line], does_settle: bool, most: Optional[int], is_json: bool = False) -> int:
-    """Plays the lines; 1 where one was refused that was not expected to be, or the network does not settle."""
-    counts, is_settled = Counts(), True
+def play(lines: List[Line], does_converge: bool, most: Optional[int], is_json: bool = False) -> int:
+    """Plays the lines; 1 where one was refused that was not expected to be, or the network does not converge."""
+    counts, is_converged = Counts(), True
     check_length(len(lines), lines[0].file if lines else None)
     with Run(most=most, tries_others=True) as run:
         for line in lines:
@@ -82,15 +82,15 @@ def play(lines: List[Line], does_settle: bool, most: Optional[int], is_json: boo
             if not is_json:
                 show(line, reply, run)
                 explain(line, reply, run)
-            done = run.settle() if does_settle and is_settled else None
-            is_settled = is_settled and (done is None or done.is_settled)
+            done = run.converge() if does_converge and is_converged else None
+            is_converged = is_converged and (done is None or done.is_converged)
             if is_json:
                 tell_as_json(line, reply, run, done)
             elif done:
-                tell_settling(PAD, done, run.network.names)
+                tell_convergence(PAD, done, run.network.names)
     if not is_json:
         print(counts)
-    return 0 if counts.is_as_expected and is_settled else CHANGED
+    return 0 if counts.is_as_expected and is_converged else CHANGED
 
 
 def parser() -> argparse.ArgumentParser:
@@ -100,12 +100,12 @@ def parser() -> argparse.ArgumentParser:
         "Without SCRIPT, at a terminal, a prompt: `?` lists what can be typed there."),
         epilog="A command that is meant to be refused has the comment `# expect refused` (or `# expect refused 13`) in the line before "
                "it, or behind it. Exit status: 0; 1 where a command was refused that is not marked so, or one that is marked was not, or the "
-               "network does not settle; 2 a mistake. Of every tool: 4 where standard output cannot be written, 141 where its reader has "
+               "network does not converge; 2 a mistake. Of every tool: 4 where standard output cannot be written, 141 where its reader has "
                "gone, 130 where it was stopped by Ctrl-C.")
     made.add_argument("script", nargs="?", metavar="SCRIPT", help="the script; - is standard input")
-    made.add_argument("--settle", action="store_true", help="after each command, deliver until all queues are empty")
+    made.add_argument("--converge", action="store_true", help="after each command, deliver until all queues are empty")
     made.add_argument("--most", type=int, metavar="N", help=(
-        "a settle stops after so many deliveries (ten thousand and more, by the size of the network)"))
+        "a converge stops after so many deliveries (ten thousand and more, by the size of the network)"))
     made.add_argument("--json", action="store_true", help="print each reply as a line of JSON, and nothing else")
     made.add_argument("--restore", nargs="?", const="", metavar="FILE", help=(
         "a prompt that takes up the work of one that ended early, as by a crash: of the newest, or the one in this file"))
@@ -121,4 +121,4 @@ def main(words: Optional[List[str]] = None) -> int:
         raise Mistake("--json is for a script; `play --json -` reads one here")
     if chosen.script is None and sys.stdin.isatty():
         return prompt(chosen.most, chosen.restore)
-    return play(read(chosen.script or "-"), chosen.settle, chosen.most, chosen.json)
+    return play(read(chosen.script or "-"), chosen.converge, chosen.most, chosen.json)

@@ -26,7 +26,7 @@ def parser() -> argparse.ArgumentParser:
         "each does, the worst first. The numbers are those of what-if: routes of all routers that are lost, moved and "
         "gained, packets that end in new black holes and loops, external neighbours told otherwise, sessions that go "
         "down, and messages until it is quiet."),
-        epilog="Exit status: 0 no change loses a route or a packet, or keeps the network from settling; 1 one does; "
+        epilog="Exit status: 0 no change loses a route or a packet, or keeps the network from converging; 1 one does; "
                "2 a mistake, as a change with a line that is refused: the others are told all the same.")
     made.add_argument("base", metavar="BASE", help="the script of the network; it needs no deliveries")
     _add_families(made)
@@ -50,7 +50,7 @@ def _add_families(made: argparse.ArgumentParser) -> None:
         "each AS in turn originates the prefix, at its router of the lowest address; may be given again"))
     group.add_argument("--changes", metavar="FOLDER", help="each file of the folder is a change, any commands")
     group.add_argument("--orders", type=int, metavar="N", help=(
-        "BASE is settled in N drawn orders: which stable states are there"))
+        "BASE is converged in N drawn orders: which stable states are there"))
 
 
 def _add_forms(made: argparse.ArgumentParser) -> None:
@@ -67,7 +67,7 @@ def _add_forms(made: argparse.ArgumentParser) -> None:
 
 def _add_ways(made: argparse.ArgumentParser) -> None:
     made.add_argument("--order", choices=("fair", "router"), help=(
-        "in which order messages are delivered, as of settle (fair)"))
+        "in which order messages are delivered, as of converge (fair)"))
     made.add_argument("--most", type=int, metavar="N", help="stop after so many deliveries")
     made.add_argument("--jobs", type=int, metavar="N", help="work by N processes (as many as there are processors)")
     made.add_argument("--by-prefix", type=int, metavar="N", help=(

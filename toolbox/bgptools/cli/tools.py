@@ -16,7 +16,7 @@ from . import interpreter
 # Each is the name of a launcher in toolbox/, a copy of `launch`, and with `_` for `-` of the module beside this one with
 # its `parser` and `main`. The list of tools, completion, manual pages, and what pip and the package install are made of
 # these names.
-TOOLS = ("play", "share", "join", "lab", "settle", "what-if", "sweep", "explain", "draw", "from-frr", "from-bird",
+TOOLS = ("play", "share", "join", "lab", "converge", "what-if", "sweep", "explain", "draw", "from-frr", "from-bird",
          "from-cbgp", "from-graph", "from-as-rel", "from-rib", "from-mrt")
 # What stands before a tool's name where it is installed.
 PREFIX = "bgpsim-"
@@ -68,7 +68,7 @@ def run(name: str, called: str, words: List[str]) -> int:
 
 
 def launched() -> int:
-    """The exit status of the tool as which this was called: by its name, as `bgpsim-settle`, or by a link to it."""
+    """The exit status of the tool as which this was called: by its name, as `bgpsim-converge`, or by a link to it."""
     return ended(lambda words: _run_at(sys.argv[0], words))
 
 

@@ -1,4 +1,4 @@
-"""What a change does, before a real network is touched: a base settled, and the same with the change, compared router by router."""
+"""What a change does, before a real network is touched: a base converged, and the same with the change, compared router by router."""
 from __future__ import annotations
 
 import argparse
@@ -8,7 +8,7 @@ from typing import List, Optional, Tuple
 from ..change.comparison import compare
 from ..change.effect import Outcome
 from ..change.report import text_of
-from ..change.what_if import changed, parser, settled_base
+from ..change.what_if import changed, parser, converged_base
 from ..convergence.run import Run
 from ..program import display
 from ..program.language import address
@@ -38,12 +38,12 @@ def _json(outcome: Outcome, chosen: argparse.Namespace) -> str:
 def main(words: Optional[List[str]] = None) -> int:
     """The tool."""
     chosen = parser().parse_args(words)
-    base, settled = settled_base(read(chosen.base), chosen)
+    base, converged = converged_base(read(chosen.base), chosen)
     with base:
         asked = _asked(base, chosen.trace)
         after, watch, done = changed(base, read(chosen.change), chosen)
         with after:
-            outcome = Outcome(compare(base, after, asked), watch, settled, done)
+            outcome = Outcome(compare(base, after, asked), watch, converged, done)
     if chosen.json:
         sys.stdout.write(_json(outcome, chosen))
     else:

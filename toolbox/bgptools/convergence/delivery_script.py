@@ -7,8 +7,8 @@ from typing import List, Optional, Tuple
 from ..program.line_count import check_length
 from ..program.replies import refusal
 from ..program.script import MARK, Line
-from .delivery import Settling
-from .run import Run, is_delivery, settled_otherwise
+from .delivery import Convergence
+from .run import Run, is_delivery, converged_otherwise
 
 EMPTY = 17
 
@@ -35,7 +35,7 @@ def _is_left_out(line: Line, reply: List[str]) -> bool:
     return is_delivery(line.text) and refusal(reply) == EMPTY and line.expected is None
 
 
-def settled(run: Run, lines: List[Line], is_at_end: bool) -> Tuple[DeliveryScript, Optional[Settling]]:
+def converged(run: Run, lines: List[Line], is_at_end: bool) -> Tuple[DeliveryScript, Optional[Convergence]]:
     """The lines with deliveries behind each command or at the end; and the deliveries that did not end, if there are such."""
     written = DeliveryScript()
     check_length(len(lines), lines[0].file if lines else None)
@@ -47,16 +47,16 @@ def settled(run: Run, lines: List[Line], is_at_end: bool) -> Tuple[DeliveryScrip
         run.check(line, reply)
         written.take(line)
         if line is lines[-1] or line.is_command and not is_at_end:
-            done = run.settle()
+            done = run.converge()
             written.lines += ["deliver %s %s" % way for way in done.deliveries]
-            if not done.is_settled:
+            if not done.is_converged:
                 return written, done
             _tell_order(run, done, line)
         check_length(len(written.lines) + left - 1, line.file, "with the deliveries up to line %d" % line.number)
     return written, None
 
 
-def _tell_order(run: Run, done: Settling, line: Line) -> None:
+def _tell_order(run: Run, done: Convergence, line: Line) -> None:
     """Tells where another order than the one that was asked for was needed."""
     if done.first:
-        print("%s:%d: %s" % (line.file, line.number, settled_otherwise(done, run.network.names)), file=sys.stderr)
+        print("%s:%d: %s" % (line.file, line.number, converged_otherwise(done, run.network.names)), file=sys.stderr)

@@ -22,55 +22,44 @@ def in_order(ways: Iterable[Direction]) -> List[Direction]:
 
 
 class Order:
-    """Each queue that has a message gives one a round. `at` is where an order stands that has places."""
-    words, is_drawn, at = "in the fair order", False, -1
+    """Rounds, in each of which every direction with a message gives one when its turn comes, by sender, then receiver.
 
-    @property
-    def is_fixed(self) -> bool:
-        """Whether from here on it depends on what waits, and on where the order stands, what is chosen."""
-        return True
+    The program delivers in this order, and in that router by router; `name` is its word for it."""
+    name, words, is_drawn = "fair", "in the fair order", False
+
+    def draws(self) -> bool:
+        """Whether `choose` chooses the directions of the next round, and not the program."""
+        return False
 
     def choose(self, waiting: Iterable[Direction]) -> List[Direction]:
-        """The queues that give a message next, of those that may have one, which are not none."""
-        return in_order(waiting)
+        """The directions that give a message next, of those that may have one, which are not none."""
+        raise NotImplementedError
 
     def begin(self) -> None:
         """Deliveries begin at another place."""
 
 
 class RouterByRouter(Order):
-    """A router takes all that waits for it, one of each queue in turn; then the next one by address does."""
-    words = "router by router"
-
-    def choose(self, waiting: Iterable[Direction]) -> List[Direction]:
-        ways = list(waiting)
-        receivers = {_place(way[1]) for way in ways}
-        if self.at not in receivers:
-            self.at = min((each for each in receivers if each > self.at), default=min(receivers))
-        return in_order(way for way in ways if _place(way[1]) == self.at)
-
-    def begin(self) -> None:
-        self.at = -1
+    """A router takes all that waits for it, by sender; then the next one does."""
+    name, words = "router", "router by router"
 
 
 class Drawn(Order):
-    """Lots are drawn for so many rounds which queues give a message, the same for the same number; then it goes on fair.
+    """Lots are drawn for so many rounds which directions give a message, the same for the same number; then it goes on
+    in the fair order.
 
-    So it is seen in all orders alike where a network never settles: what waits decides then what is chosen."""
+    So it is seen in all orders alike where a network never converges."""
     is_drawn = True
 
     def __init__(self, seed: int) -> None:
         self.seed, self.words = seed, "in the drawn order %d" % seed
         self.random, self.left = random.Random(seed), ROUNDS
 
-    @property
-    def is_fixed(self) -> bool:
-        return not self.left
+    def draws(self) -> bool:
+        return self.left > 0
 
     def choose(self, waiting: Iterable[Direction]) -> List[Direction]:
         ways = in_order(waiting)
-        if self.is_fixed:
-            return ways
         self.left -= 1
         drawn = [way for way in ways if self.random.getrandbits(1)] or [self.random.choice(ways)]
         self.random.shuffle(drawn)

@@ -64,7 +64,7 @@ class Queues:
             self.add([(words[1], peer) for peer in self.network.peers.get(words[1], ()) if self._is_told_own(words[1], peer, words[2])], 1)
         elif name == "self" or name in ("rule", "clear") and words[3] == "out":
             self.add([(words[1], words[2])] if self._has_routes(words[1]) else [], ANY)
-        else:
+        elif self.chosen or not self.knows_all:
             senders = {router for router in self.network.may_send(words) or () if self._has_routes(router)}
             self._forget(senders)
             self.add(self.network.directions(senders), ANY)
@@ -78,6 +78,13 @@ class Queues:
         self.most[way] = self.most.get(way, ANY) - 1
         if self.most[way] <= 0:
             del self.most[way]
+
+    def converged(self, cells: Iterable[Cell]) -> None:
+        """No message waits, and what routers chose for these, about which they took messages, is not known."""
+        self.most.clear()
+        for cell in cells:
+            if self.network.is_router(cell[0]):
+                self._set(cell, None)
 
     def emptied(self, way: Direction) -> None:
         """Nothing waits there."""
@@ -93,13 +100,12 @@ class Queues:
             self._set(cell, None)
             self.add([(cell[0], peer) for peer in self.telling.peers(*cell)], count)
 
-    def learn(self, cell: Cell, count: int, reply: str) -> bool:
-        """A router took so many messages about a prefix, and this is what it chose; whether it may have chosen anew."""
+    def learn(self, cell: Cell, count: int, reply: str) -> None:
+        """A router took so many messages about a prefix, and this is what it chose."""
         old = self.known(cell)
         self._set(cell, reply)
         if count == 1 and old == reply:
-            return False
+            return
         told = [peer for peer in self.telling.peers(*cell)
                 if count > 1 or old is None or tells(self.network, cell[0], peer, old) or tells(self.network, cell[0], peer, reply)]
         self.add([(cell[0], peer) for peer in told], count)
-        return True

@@ -13,16 +13,18 @@ from ..program.mistakes import Mistake
 from ..program.names import Names
 from ..program.replies import refusal
 from ..program.script import Line
-from .delivery import Settler, Settling
+from .delivery import Deliverer, Convergence
 from .orders import Drawn, Order, RouterByRouter
 
 DRAWN = 8
+# So many prefixes, and so many routers of each, are told of those that keep changing.
+PREFIXES, ROUTERS = 8, 10
 
 
 class Run(Answers):
     """A program, what it was told, and where messages may wait.
 
-    With `tries_others` a network that does not settle in the order of the run is tried in others. The program is
+    With `tries_others` a network that does not converge in the order of the run is tried in others. The program is
     another one then. A new program is started where none is given."""
 
     def __init__(self, order: Optional[Order] = None, most: Optional[int] = None, tries_others: bool = False,
@@ -30,7 +32,7 @@ class Run(Answers):
         self.network = Network()
         self.program = program or CountedProgram()
         self.order, self.most = order or Order(), most
-        self.settler = Settler(self.program, self.network, self.order, most)
+        self.deliverer = Deliverer(self.program, self.network, self.order, most)
         self.tries_others, self.has_tried_all = tries_others, False
 
     @property
@@ -49,19 +51,19 @@ class Run(Answers):
         if is_accepted(reply):
             words = words_of(line)
             self.network.take(words)
-            self.settler.after(words, reply)
+            self.deliverer.after(words, reply)
         elif not reply and self.network.names.take(line):
             self.program.keep(line)
         return reply
 
     def repeat(self, lines: List[str]) -> List[str]:
         """Gives the next lines that another run accepted to this one: the replies to those that have one. Where
-        messages may wait is not learned from them: the other run was quiet after them, or nothing is settled here."""
+        messages may wait is not learned from them: the other run was quiet after them, or nothing is converged here."""
         replies = self.program.give(lines)
         for line in lines:
             if not self.network.names.take(line):
                 self.network.take(words_of(line))
-        self.settler.waiting.knows_all = False
+        self.deliverer.waiting.knows_all = False
         return replies
 
     def ask(self, questions: Iterable[str]) -> List[List[str]]:
@@ -74,30 +76,30 @@ class Run(Answers):
         return hashlib.sha256("\n".join(line for reply in replies for line in reply).encode("latin-1")).hexdigest()
 
     def follow(self, order: Order, most: Optional[int], tries_others: bool) -> None:
-        """Settles in this order from here on, with at most so many deliveries."""
+        """Converges in this order from here on, with at most so many deliveries."""
         self.order, self.most, self.tries_others, self.has_tried_all = order, most, tries_others, False
-        self.settler.order, self.settler.most = order, most
+        self.deliverer.order, self.deliverer.most = order, most
 
-    def settle(self) -> Settling:
+    def converge(self) -> Convergence:
         """Delivers until all queues are empty, or never will be. What the run then has accepted are the deliveries that
         are told."""
         before = len(self.lines)
-        done = self.settler.settle()
-        return self._otherwise(done, self.lines[:before]) if self.tries_others and not done.is_settled else done
+        done = self.deliverer.converge()
+        return self._otherwise(done, self.lines[:before]) if self.tries_others and not done.is_converged else done
 
-    def _otherwise(self, first: Settling, lines: List[str]) -> Settling:
-        """The same deliveries in other orders, from where they began. The first one that settles takes the place of
+    def _otherwise(self, first: Convergence, lines: List[str]) -> Convergence:
+        """The same deliveries in other orders, from where they began. The first one that converges takes the place of
         what was tried.
 
-        All are tried once, so as to tell in how many states they end; at a later place only until one settles."""
+        All are tried once, so as to tell in how many states they end; at a later place only until one converges."""
         found, chosen, states = [], None, set()
         for order in _others(self.order):
             other = self._attempt(order, lines)
-            done = other.settler.settle()
+            done = other.deliverer.converge()
             found.append(done)
-            if done.is_settled:
+            if done.is_converged:
                 states.add(other.state())
-            if done.is_settled and chosen is None:
+            if done.is_converged and chosen is None:
                 chosen = other
             else:
                 other.close()
@@ -117,16 +119,16 @@ class Run(Answers):
         made = Run(order, most)
         made.program.give(lines)
         made.network = self.network
-        made.settler = Settler(made.program, self.network, order, most)
-        made.settler.waiting.forget_all()
+        made.deliverer = Deliverer(made.program, self.network, order, most)
+        made.deliverer.waiting.forget_all()
         return made
 
-    def _take(self, other: "Run", first: Settling, found: List[Settling], states: int) -> Settling:
+    def _take(self, other: "Run", first: Convergence, found: List[Convergence], states: int) -> Convergence:
         """Goes on where the other run is, in the order of this one."""
         self.program.close()
-        self.program, self.settler = other.program, other.settler
-        self.settler.order, self.settler.most = self.order, self.most
-        done = next(each for each in found if each.is_settled)
+        self.program, self.deliverer = other.program, other.deliverer
+        self.deliverer.order, self.deliverer.most = self.order, self.most
+        done = next(each for each in found if each.is_converged)
         done.first, done.others, done.states = first, found, states
         return done
 
@@ -158,47 +160,73 @@ def is_delivery(line: str) -> bool:
 
 
 def _others(order: Order) -> List[Order]:
-    """The orders that are tried where this one does not settle."""
+    """The orders that are tried where this one does not converge."""
     known: List[Order] = [Order(), RouterByRouter()] + [Drawn(seed) for seed in range(1, DRAWN + 1)]
     return [each for each in known if each.words != order.words]
 
 
-def _how(done: Settling, names: Names) -> str:
-    """How one order does not settle."""
+def _how(done: Convergence, names: Names) -> str:
+    """How one order does not converge."""
     told = ["%s the same state comes back every %d deliveries" % (done.order.words, done.period) if done.period
             else "%s it is not quiet after %d deliveries" % (done.order.words, len(done.deliveries))]
-    told += ["%s keeps changing at %s" % (prefix, ", ".join(map(names.shown, routers)))
-             for prefix, routers in done.restless.items()]
+    if _is_long(done):
+        told.append("%d prefixes keep changing" % len(done.restless))
+    else:
+        told += ["%s keeps changing at %s" % (prefix, ", ".join(map(names.shown, routers)))
+                 for prefix, routers in done.restless.items()]
     return "; ".join(told)
 
 
-def _tried(others: List[Settling]) -> str:
+def _is_long(done: Convergence) -> bool:
+    """Whether who keeps changing takes more than one line."""
+    return sum(map(len, done.restless.values())) > ROUTERS
+
+
+def _changing(done: Convergence, names: Names, is_whole: bool) -> str:
+    """Who keeps changing, by prefix, where that takes more than one line: all, or the first ones."""
+    if not _is_long(done):
+        return ""
+    lines = []
+    for prefix, routers in list(done.restless.items())[:None if is_whole else PREFIXES]:
+        shown = ", ".join(map(names.shown, routers if is_whole else routers[:ROUTERS]))
+        more = 0 if is_whole else len(routers) - ROUTERS
+        lines.append("%s keeps changing at %s%s" % (prefix, shown, " and %d more" % more if more > 0 else ""))
+    left = len(done.restless) - len(lines)
+    lines += ["and %d prefixes more, which `converge --all` tells" % left] if left else []
+    return "".join("\n  " + line for line in lines)
+
+
+def _tried(others: List[Convergence]) -> str:
     """The orders that were tried, in few words."""
     drawn = sum(done.order.is_drawn for done in others)
     fixed = [done.order.words for done in others if not done.order.is_drawn]
     return ", ".join(fixed + (["%d drawn" % drawn] if drawn else []))
 
 
-def unsettled(done: Settling, names: Optional[Names] = None) -> str:
-    """What is told where deliveries do not end."""
-    told = _how(done, names or Names())
+def not_converged(done: Convergence, names: Optional[Names] = None, is_whole: bool = False) -> str:
+    """What is told where deliveries do not end: all, or in at most ten lines."""
+    known = names or Names()
+    told = _how(done, known)
     if done.others:
-        told += "; of %d other orders (%s) none settles" % (len(done.others), _tried(done.others))
-    return told if done.period or done.restless else told + ": --most N allows more"
+        told += "; of %d other orders (%s) none converges" % (len(done.others), _tried(done.others))
+    if not done.period and not done.restless:
+        told += ": --most N allows more"
+    return told + _changing(done, known, is_whole)
 
 
-def settled_otherwise(done: Settling, names: Optional[Names] = None) -> str:
-    """What is told where another order settled than the first; nothing where the first one did."""
+def converged_otherwise(done: Convergence, names: Optional[Names] = None, is_whole: bool = False) -> str:
+    """What is told where another order converged than the first; nothing where the first one did."""
     if done.first is None:
         return ""
-    told = _how(done.first, names or Names()) + "; it settles " + done.order.words
-    quiet = [each for each in done.others if each.is_settled]
+    known = names or Names()
+    told = _how(done.first, known) + "; it converges " + done.order.words
+    quiet = [each for each in done.others if each.is_converged]
     if len(done.others) > 1 or done.states > 1:
-        told += "; of %d other orders (%s) %d settle, in %d stable state%s" % (
+        told += "; of %d other orders (%s) %d converge, in %d stable state%s" % (
             len(done.others), _tried(done.others), len(quiet), done.states, "" if done.states == 1 else "s")
-    return told
+    return told + _changing(done.first, known, is_whole)
 
 
-def told_of(done: Settling, names: Optional[Names] = None) -> str:
+def told_of(done: Convergence, names: Optional[Names] = None) -> str:
     """What is to be told of deliveries: nothing where they ended in the order that was asked for."""
-    return settled_otherwise(done, names) if done.is_settled else unsettled(done, names)
+    return converged_otherwise(done, names) if done.is_converged else not_converged(done, names)

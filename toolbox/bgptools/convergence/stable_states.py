@@ -9,10 +9,10 @@ from ..program.names import Names
 from ..program.output import Progress
 from ..program.replies import Route, route_text, routes
 from ..program.script import Line
-from .delivery import Settling
-from .delivery_script import settled
+from .delivery import Convergence
+from .delivery_script import converged
 from .orders import Drawn
-from .run import Run, unsettled
+from .run import Run, not_converged
 
 Cell = Tuple[str, str]
 
@@ -28,7 +28,7 @@ class State:
 class Found:
     """The states, those that were seen most often first; and the orders that did not end, by their numbers."""
     states: List[State] = field(default_factory=list)
-    endless: Dict[int, Settling] = field(default_factory=dict)
+    endless: Dict[int, Convergence] = field(default_factory=dict)
     names: Names = field(default_factory=Names)
 
     @property
@@ -62,7 +62,7 @@ def look_for(lines: List[Line], count: int, is_at_end: bool, most: Optional[int]
     found, progress = Found(), Progress()
     for seed in range(1, count + 1):
         with Run(Drawn(seed), most) as run:
-            _, endless = settled(run, lines, is_at_end)
+            _, endless = converged(run, lines, is_at_end)
             if endless:
                 found.endless[seed] = endless
             else:
@@ -93,6 +93,6 @@ def text_of(found: Found) -> str:
     lines += [line for at in range(count) for line in _state(found, at)] if count > 1 else []
     if found.endless:
         seed, done = next(iter(found.endless.items()))
-        lines.append("%d of %d did not settle, as with --seed %d: %s" % (
-            len(found.endless), found.count, seed, unsettled(done, found.names)))
+        lines.append("%d of %d did not converge, as with --seed %d: %s" % (
+            len(found.endless), found.count, seed, not_converged(done, found.names)))
     return "\n".join(lines) + "\n"

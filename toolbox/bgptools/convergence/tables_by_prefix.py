@@ -1,7 +1,7 @@
-"""The settled tables of a network that is played by its prefixes, some at a time, by several processes.
+"""The converged tables of a network that is played by its prefixes, some at a time, by several processes.
 
 Prefixes do not meet in the decision, and no next hop is looked up among the routes. So what each part of the network
-settles in, the whole network settles in; and where it has one stable state, that is it."""
+converges in, the whole network converges in; and where it has one stable state, that is it."""
 from __future__ import annotations
 
 import argparse
@@ -12,17 +12,17 @@ from ..network.prefix_parts import Parts
 from ..program.process_pool import ProcessPool, Workers, processors
 from ..program.progress import Clock
 from ..program.script import Line
-from .delivery_script import settled
+from .delivery_script import converged
 from .orders import order_of
-from .run import Run, unsettled
+from .run import Run, not_converged
 
-# A router's chosen routes, as lines; and how a part does not settle, if it does not.
+# A router's chosen routes, as lines; and how a part does not converge, if it does not.
 Part = Tuple[Dict[str, bytes], str]
 
 
 @dataclass
 class Tables:
-    """The chosen routes of all routers, by part, and how parts do not settle."""
+    """The chosen routes of all routers, by part, and how parts do not converge."""
     routers: List[str] = field(default_factory=list)
     parts: List[Dict[str, bytes]] = field(default_factory=list)
     endless: List[str] = field(default_factory=list)
@@ -37,17 +37,17 @@ class Tables:
         return b"".join(pieces)
 
 
-class Settles(ProcessPool[int]):
-    """Settles parts of a script, by their numbers."""
+class Converges(ProcessPool[int]):
+    """Converges parts of a script, by their numbers."""
 
     def __init__(self, parts: List[List[Line]], chosen: argparse.Namespace) -> None:
         self.parts, self.chosen = parts, chosen
 
     def __call__(self, task: int) -> Part:
         with Run(order_of(self.chosen), self.chosen.most, tries_others=True) as run:
-            _, endless = settled(run, self.parts[task], self.chosen.at_end)
+            _, endless = converged(run, self.parts[task], self.chosen.at_end)
             if endless:
-                return {}, unsettled(endless, run.network.names)
+                return {}, not_converged(endless, run.network.names, self.chosen.all)
             routers = run.network.routers()
             replies = run.ask("routes " + router for router in routers)
         return {router: "".join(line + "\n" for line in reply[:-1]).encode("latin-1")
@@ -55,11 +55,11 @@ class Settles(ProcessPool[int]):
 
 
 def tables_of(lines: List[Line], chosen: argparse.Namespace) -> Tables:
-    """The tables of a script that is settled with `by_prefix` of its prefixes at a time."""
+    """The tables of a script that is converged with `by_prefix` of its prefixes at a time."""
     parts = Parts(lines, [], chosen.by_prefix, has_inner_together=False).of(lines)
     left, found = list(range(len(parts))), {}  # type: List[int], Dict[int, Part]
     clock = Clock(len(parts), 0)
-    with Workers[int](min(chosen.jobs or processors(), len(parts)), lambda: Settles(parts, chosen)) as workers:
+    with Workers[int](min(chosen.jobs or processors(), len(parts)), lambda: Converges(parts, chosen)) as workers:
         try:
             for number, part in workers.results(lambda _: left.pop(0) if left else None):
                 found[number] = part

@@ -6,7 +6,7 @@ from typing import Dict, List
 from ..program import communities, display
 from ..program.names import Names
 from ..program.replies import refusal, routes
-from .delivery import Settling
+from .delivery import Convergence
 from .run import Run, told_of
 
 # So many of the deliveries that do not end are shown, and so many prefixes.
@@ -40,9 +40,9 @@ def _listed(items: List[str]) -> str:
     return ", ".join(items[:FIRST]) + (" and %d more" % (len(items) - FIRST) if len(items) > FIRST else "")
 
 
-def tell_settling(pad: str, done: Settling, names: Names) -> None:
+def tell_convergence(pad: str, done: Convergence, names: Names) -> None:
     """Prints the deliveries, or the last ones where they do not end."""
     lines = ["deliver %s %s: %s" % (way + (took,)) for way, took in zip(done.deliveries, done.taken)]
-    left_out = 0 if done.is_settled else max(0, len(lines) - LAST)
+    left_out = 0 if done.is_converged else max(0, len(lines) - LAST)
     tell(pad, ["%d deliveries, and then" % left_out] if left_out else [], names)
     tell(pad, lines[left_out:] + ["-- " + text for text in [told_of(done)] if text], names)

@@ -6,7 +6,7 @@ from typing import List
 from ..change.comparison import compare
 from ..change.effect import Outcome
 from ..change.report import text_of
-from ..change.what_if import changed, parser, settled_base
+from ..change.what_if import changed, parser, converged_base
 from ..program.language import escaped
 from ..program.script import content_of, lines_of
 
@@ -19,7 +19,7 @@ def what_if(base: List[str], change: List[str]) -> bytes:
     """What a change does to the network of the base, as `what-if network.bgp proposed.change` prints it, in UTF-8.
     Mistake where it cannot be made."""
     chosen = parser().parse_args([BASE, CHANGE])
-    before, converged = settled_base(lines_of(content_of(base), BASE), chosen)
+    before, converged = converged_base(lines_of(content_of(base), BASE), chosen)
     with before:
         after, watch, done = changed(before, lines_of(content_of(change), CHANGE), chosen)
         with after:

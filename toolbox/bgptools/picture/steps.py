@@ -49,11 +49,11 @@ def _word(line: Line) -> str:
 class Steps:
     """Plays a script step by step. Lines up to `start` are one step; pictures that are equal are one.
 
-    Where the network does not settle after a line, or settles in another order, `told` says so. Where it does not,
+    Where the network does not converge after a line, or converges in another order, `told` says so. Where it does not,
     nothing is delivered after later lines."""
 
-    def __init__(self, run: Run, view: View, does_settle: bool, start: int = 0) -> None:
-        self.run, self.view, self.does_settle, self.start = run, view, does_settle, start
+    def __init__(self, run: Run, view: View, does_converge: bool, start: int = 0) -> None:
+        self.run, self.view, self.does_converge, self.start = run, view, does_converge, start
         self.steps: List[Step] = []
         self.scenes: List[Scene] = []
         self.says: List[str] = []
@@ -61,7 +61,7 @@ class Steps:
         self.folded: List[str] = []
         self.count = 0
         self.told: List[str] = []
-        self.is_settled = True
+        self.is_converged = True
         self.is_passing = False
         self.known = Known()
 
@@ -110,15 +110,15 @@ class Steps:
     def _deliveries(self, line: Line, reply: List[str]) -> Tuple[List[str], Delivered]:
         """What is told of the deliveries that follow the line, and all that was delivered with it."""
         taken = [((line.words[1], line.words[2]), reply[0])] if _word(line) == "deliver" and not refusal(reply) else []
-        done = self.run.settle() if self.does_settle else None
+        done = self.run.converge() if self.does_converge else None
         after = list(zip(done.deliveries, done.taken)) if done else []
         extra = ["deliver %s %s: %s" % (*way, took) for way, took in after]
         if after:
             self.known.forget()
         if done and told_of(done):
             self.told.append("line %d: %s" % (line.number, told_of(done, self.run.network.names)))
-        if done and not done.is_settled:
-            self.does_settle = self.is_settled = False
+        if done and not done.is_converged:
+            self.does_converge = self.is_converged = False
             extra = [".."] * (len(extra) > LAST) + extra[-LAST:] + [told_of(done)]
         delivered: Dict[Direction, List[str]] = {}
         for way, took in taken + after:

@@ -12,7 +12,7 @@ from .language import escaped
 
 VERSION = 1
 # What a field is called otherwise than in its class.
-NAMES = {"is_settled": "converged"}
+NAMES = {"is_converged": "converged"}
 # A byte of a file's name that is no UTF-8, as Python has it. JSON has no such character.
 BYTE = re.compile("[\udc80-\udcff]")
 

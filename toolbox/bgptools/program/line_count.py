@@ -5,14 +5,16 @@ and only a script that is itself too long comes to an end."""
 from __future__ import annotations
 
 import sys
-from typing import Iterable, List, Optional
+from typing import Callable, Iterable, List, Optional
 
+from .echo import Echo
 from .language import is_silent
 from .mistakes import Mistake
 from .process import Program, ProgramEnded
 
 MOST_LINES = 1000000
 NEAR, PART = 0.9, 4096
+FULL = "with its deliveries the script has {:,} lines and more, and one run of the program reads no more"
 
 
 def is_accepted(reply: List[str]) -> bool:
@@ -47,6 +49,37 @@ class CountedProgram(Program):
             self.accepted += [line for line, reply in zip(part, found) if is_accepted(reply)]
             replies += found
         return replies
+
+    def request(self, line: str) -> List[str]:
+        """The lines of the reply to a request of tools."""
+        self._room()
+        self.count += 1
+        self.count_of_all += 1
+        return super().request(line)
+
+    def converge(self, order: str, most: int, told: Callable[[int], None] = lambda count: None) -> Echo:
+        """Delivers in an order of the program's until no message waits, or at most so many. Where that is not the end
+        of it, nothing is delivered: the program is started anew. Raises ProgramEnded where one script cannot hold
+        the deliveries."""
+        self._room()
+        room = MOST_LINES - len(self.accepted)
+        found = super().converge(order, min(most, room), told)
+        self.count += 1
+        self.count_of_all += 1
+        if found.is_converged or found.is_refused:
+            self.keep_deliveries(found.commands, found.replies)
+        elif room < most:
+            self.is_torn = True
+            raise ProgramEnded(FULL.format(MOST_LINES))
+        else:
+            self._renew()
+        return found
+
+    def keep_deliveries(self, commands: List[str], replies: List[str]) -> None:
+        """Keeps deliveries that were made with what was accepted."""
+        self.accepted += commands
+        for command, reply in zip(commands, replies):
+            self.heard(command, [reply])
 
     def give(self, lines: List[str]) -> List[str]:
         """Gives it the lines that another run accepted, with the comments that were kept among them: the replies to
@@ -84,8 +117,7 @@ class CountedProgram(Program):
     def _renew(self) -> None:
         """Another process, given what was accepted."""
         if len(self.accepted) >= MOST_LINES:
-            told = "with its deliveries the script has {:,} lines and more, and one run of the program reads no more"
-            raise ProgramEnded(told.format(MOST_LINES))
+            raise ProgramEnded(FULL.format(MOST_LINES))
         fresh = Program()
         try:
             _check_again(self.accepted, fresh.pour(self.accepted))

@@ -1,19 +1,25 @@
-"""The program, run line by line: a line is given to `bgpsim script`, and the lines of its reply are read."""
+"""The program, run line by line: a line is given to `bgpsim converge`, and the lines of its reply are read."""
 from __future__ import annotations
 
+import io
 import os
 import signal
 import subprocess
 import threading
-from typing import Any, Callable, Dict, Iterable, List
+from typing import Any, Callable, Dict, Iterable, List, Tuple
 
 from . import location
+from .echo import DELIVERED, Echo
 from .language import REPORTS, ended, escaped, is_silent, words_of
 from .mistakes import Mistake
 
 LONGEST_READ = 65536
 # Fewer bytes than any pipe holds: so much is written before its replies are read.
 AT_ONCE = 8192
+# So much of a long reply is read at once, and its last line is no longer than this.
+PIECE, LAST_LINE = 1 << 20, 256
+# The first words of what tools ask for, and scripts do not: it is no command.
+REQUESTS = ("converge", "waiting")
 # So many seconds a program that answers nothing more has to end.
 PATIENCE = 10
 
@@ -23,7 +29,7 @@ class ProgramEnded(Mistake):
 
 
 class Program:
-    """A run of `bgpsim script`; PROGRAM= names another built program.
+    """A run of `bgpsim converge`; PROGRAM= names another built program.
 
     It has a session of its own, so that Ctrl-C is for the tool alone: `beginning` are the words of `subprocess.Popen`
     for that, and a worker process (jobs/) has others. `before` is called before lines are given, where
@@ -41,12 +47,12 @@ class Program:
         mask = signal.pthread_sigmask(signal.SIG_BLOCK, {signal.SIGINT})
         try:
             self.process: "subprocess.Popen[bytes]" = subprocess.Popen(
-                [self.path, "script"], stdin=subprocess.PIPE, stdout=subprocess.PIPE, bufsize=-1, **self.beginning)
+                [self.path, "converge"], stdin=subprocess.PIPE, stdout=subprocess.PIPE, bufsize=-1, **self.beginning)
         except OSError as error:
             raise Mistake("the program cannot be run: %s" % error.strerror, self.path) from None
         finally:
             signal.pthread_sigmask(signal.SIG_SETMASK, mask)
-        assert self.process.stdin and self.process.stdout
+        assert self.process.stdin and isinstance(self.process.stdout, io.BufferedReader)
         self.given, self.told = self.process.stdin, self.process.stdout
 
     def say(self, line: str) -> List[str]:
@@ -61,7 +67,7 @@ class Program:
         replies: List[List[str]] = []
         part: List[str] = []
         size = 0
-        for line in map(one_line, list(lines)):
+        for line in map(_command, list(lines)):
             if part and size + len(line) >= AT_ONCE:
                 replies += self._exchange(part)
                 part, size = [], 0
@@ -73,7 +79,7 @@ class Program:
         """The reply to each line that has one, where it is one line: to edits, feeds and deliveries.
 
         Lines are written while replies are read, so that the program never waits: the fastest way to play many."""
-        spoken = [line for line in map(one_line, lines) if not is_silent(line)]
+        spoken = [line for line in map(_command, lines) if not is_silent(line)]
         content = "".join(map(ended, spoken)).encode("latin-1")
         self.before()
         self.is_torn = True
@@ -85,6 +91,33 @@ class Program:
             writer.join()
         self.is_torn = False
         return replies
+
+    def request(self, line: str) -> List[str]:
+        """The lines of the reply to a line that may be a request of tools, too, which no script has."""
+        return self._exchange([one_line(line)])[0]
+
+    def waiting(self) -> List[Tuple[str, str]]:
+        """The directions in which messages wait, by sender, then receiver."""
+        return [(words[0], words[1]) for words in map(words_of, self.request("waiting")[:-1])]
+
+    def converge(self, order: str, most: int, told: Callable[[int], None] = lambda count: None) -> Echo:
+        """Delivers in an order of the program's, `fair` or `router`, until no message waits or so many were delivered.
+
+        `told` is called with the number of deliveries so far. The reply is read in bulk, and `heard` is not called."""
+        self.before()
+        self.is_torn = True
+        self._write_all(ended("converge %s %d echo" % (order, max(0, most))).encode("latin-1"))
+        parts, end, count = [], b"", 0  # type: List[bytes], bytes, int
+        while not end.endswith(b"\n") or end[:-1].rpartition(b"\n")[2].startswith(DELIVERED):
+            part = self.told.read1(PIECE)
+            if not part:
+                raise self._gone()
+            parts.append(part)
+            end = (end + part)[-LAST_LINE:]
+            count += part.count(b"\n")
+            told(count // 2)
+        self.is_torn = False
+        return Echo.of(b"".join(parts).decode("latin-1"))
 
     def close(self) -> None:
         """Ends the input and waits for the program."""
@@ -107,15 +140,19 @@ class Program:
         self.before()
         content = "".join(map(ended, lines)).encode("latin-1")
         self.is_torn = True
+        self._write_all(content)
+        replies = list(map(self._reply, lines))
+        self.is_torn = False
+        return replies
+
+    def _write_all(self, content: bytes) -> None:
+        """Writes all, which the pipe holds."""
         try:
             self.given.write(content)
             self.given.flush()
         except (OSError, ValueError):
             # A pipe whose reader has gone, or one that was closed when the program had ended.
             raise self._gone() from None
-        replies = list(map(self._reply, lines))
-        self.is_torn = False
-        return replies
 
     def _write(self, content: bytes) -> None:
         """Writes all. Where the program has gone its replies tell that."""
@@ -128,8 +165,11 @@ class Program:
     def _reply(self, line: str) -> List[str]:
         reply = [] if is_silent(line) else [self._line()]
         words = words_of(line)
-        if reply and words and words[0] in REPORTS and not reply[0].startswith("refused "):
+        if reply and words and (words[0] in REPORTS or words == ["waiting"]) and not reply[0].startswith("refused "):
             while not reply[-1].startswith("end "):
+                reply.append(self._line())
+        elif words[:1] == ["converge"]:
+            while reply[-1].encode("latin-1").startswith(DELIVERED):
                 reply.append(self._line())
         self.heard(line, reply)
         return reply
@@ -156,6 +196,11 @@ class Program:
             self.given.close()
         except OSError:
             pass
+
+
+def _command(line: str) -> str:
+    """The line for the program. A request of tools is made one that the program refuses, as any that is no command."""
+    return one_line(line) if words_of(line)[:1] not in ([word] for word in REQUESTS) else REQUESTS[0] + " -"
 
 
 def one_line(line: str) -> str:

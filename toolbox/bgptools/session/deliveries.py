@@ -52,15 +52,15 @@ class Deliveries:
         self.workers.spent(len(entries))
         # The limit is never lower, and takes a while to count.
         count, most = self.ledger.since_edit, self.program.most
-        if count >= (LIMIT if most is None else most) and count >= self.program.settler.limit():
+        if count >= (LIMIT if most is None else most) and count >= self.program.deliverer.limit():
             self.pause_for("after %d deliveries without an edit it is not quiet" % count)
         self.is_working = False
         return tried
 
     def due(self, now: float) -> Optional[float]:
         """After how many seconds `work` has something to do; nothing where it has not before something is done."""
-        settler = self.program.settler
-        waits = bool(self.round or settler.waiting.most or settler.is_unsure)
+        deliverer = self.program.deliverer
+        waits = bool(self.round or deliverer.waiting.most or deliverer.is_unsure)
         return self.workers.due(now) if waits else None
 
     def steps(self, seat: int, count: int) -> List[Entry]:
@@ -113,7 +113,7 @@ class Deliveries:
 
     def _check_workers(self) -> None:
         if not self.workers.seats:
-            raise Mistake("there are no workers: `next` and `settle` deliver by hand")
+            raise Mistake("there are no workers: `next` and `converge` deliver by hand")
 
     # By hand
 
@@ -136,10 +136,10 @@ class Deliveries:
         """Delivers at most so many messages, one of each queue in turn: how many queues were tried, and what was
         delivered. Mistake where memory was refused, when the others are delivered."""
         with self.program.renewing():
-            if not self.round and self.program.settler.is_waiting():
-                self.round += in_order(self.program.settler.waiting.most)[::-1]
+            if not self.round and self.program.deliverer.is_waiting():
+                self.round += in_order(self.program.deliverer.waiting.most)[::-1]
         ways = [self.round.pop() for _ in range(min(most, len(self.round)))]
-        settler = self.program.settler
+        deliverer = self.program.deliverer
         entries: List[Entry] = []
         cells: "Counter[Tuple[str, str]]" = Counter()
         wanting = ""
@@ -147,10 +147,10 @@ class Deliveries:
             if refusal(reply) == MEMORY:
                 wanting = "deliver %s %s: %s: memory was refused" % (*way, reply[0])
             elif refusal(reply):
-                settler.waiting.emptied(way)
+                deliverer.waiting.emptied(way)
             else:
                 entries.append(Entry(seat_of(way[1]), "deliver %s %s" % way, reply))
-                settler.waiting.took(way)
+                deliverer.waiting.took(way)
                 cells[way[1], reply[0].split(" ")[1]] += 1
         self._delivered(entries, cells)
         if wanting:
@@ -162,7 +162,7 @@ class Deliveries:
         self.ledger.keep(entries)
         for entry in entries:
             self.ledger.take(entry)
-        settler = self.program.settler
-        settler.is_unsure = settler.is_unsure or bool(cells)
+        deliverer = self.program.deliverer
+        deliverer.is_unsure = deliverer.is_unsure or bool(cells)
         with contextlib.suppress(Lost), self.program.renewing():
-            settler.moved(cells)
+            deliverer.learn(cells)

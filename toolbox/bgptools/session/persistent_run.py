@@ -5,7 +5,7 @@ import contextlib
 import time
 from typing import Callable, Iterable, Iterator, List, Optional
 
-from ..convergence.delivery import Settler
+from ..convergence.delivery import Deliverer
 from ..convergence.orders import Order
 from ..convergence.run import Run
 from ..network.configuration import Direction, Network
@@ -74,9 +74,9 @@ class PersistentRun:
         return self.run.lines
 
     @property
-    def settler(self) -> Settler:
+    def deliverer(self) -> Deliverer:
         """Where messages may wait."""
-        return self.run.settler
+        return self.run.deliverer
 
     @property
     def is_full(self) -> bool:
@@ -105,7 +105,7 @@ class PersistentRun:
     def waiting(self, most: int = 100) -> List[Direction]:
         """Where messages wait, in order; of many the first."""
         found: List[Direction] = []
-        ways = self.settler.suspects
+        ways = self.deliverer.suspects
         while ways and len(found) < most:
             part, ways = ways[:AT_ONCE], ways[AT_ONCE:]
             replies = self.asked(["queue %s %s" % way for way in part])
@@ -122,8 +122,8 @@ class PersistentRun:
         """Notes what a change configured, and what it may have put into queues."""
         words = words_of(entry.line)
         self.network.take(words)
-        self.settler.after(words, entry.reply)
-        self.settler.is_unsure = True
+        self.deliverer.after(words, entry.reply)
+        self.deliverer.is_unsure = True
 
     def name(self, line: str) -> bool:
         """A comment, which may name a router; whether it does."""
@@ -179,13 +179,13 @@ class PersistentRun:
         _end(old)
         self.run = Run(most=self.most, program=absent)
         self.run.network = network
-        self.run.settler = Settler(absent, network, Order(), self.most)
-        self.run.settler.waiting.forget_all()
-        self.run.settler.is_unsure = True
+        self.run.deliverer = Deliverer(absent, network, Order(), self.most)
+        self.run.deliverer.waiting.forget_all()
+        self.run.deliverer.is_unsure = True
         self.renewed()
 
     def _use(self, program: CountedProgram) -> None:
-        self.run.program = self.run.settler.program = program
+        self.run.program = self.run.deliverer.program = program
 
     def drop(self, why: str) -> None:
         """Lets go of the program and of all that it has accepted."""

@@ -20,7 +20,7 @@ from ..program.mistakes import Mistake
 from .effect_counts import Figures
 from .effect_file import Results, Task
 from .executor import about, gather, lost
-from .player import Job, Player, settled_job
+from .player import Job, Player, converged_job
 
 PACKAGE = "distributed"
 # So long a scheduler is waited for, in seconds.
@@ -52,10 +52,10 @@ def version_of(program: Optional[str]) -> Tuple[str, str, str, str]:
     return ".".join(platform.python_version_tuple()[:2]), __version__, told, digest
 
 
-def settle_there(given: bytes, program: Optional[str]) -> bytes:
-    """A job with its base settled."""
+def converge_there(given: bytes, program: Optional[str]) -> bytes:
+    """A job with its base converged."""
     _use(program)
-    return pickle.dumps(settled_job(pickle.loads(given)))
+    return pickle.dumps(converged_job(pickle.loads(given)))
 
 
 def play_there(given: bytes, key: str, number: int, program: Optional[str]) -> Dict[str, Any]:
@@ -140,9 +140,9 @@ class Cluster:
     def results(self, tasks: List[Task]) -> Iterator[Tuple[Task, Figures]]:
         """Each task with its figures, as they are done."""
         digest, submit, program = about(self.jobs), self.client.submit, self.program
-        settled = {part: submit(settle_there, pickle.dumps(self.jobs[part]), program, pure=False)
+        converged = {part: submit(converge_there, pickle.dumps(self.jobs[part]), program, pure=False)
                    for part in {task[0] for task in tasks}}
-        self.tasks = {submit(play_there, settled[part], "%s %d" % (digest, part), number, program, pure=False):
+        self.tasks = {submit(play_there, converged[part], "%s %d" % (digest, part), number, program, pure=False):
                       (part, number) for part, number in tasks}
         for future in self.dask.as_completed(list(self.tasks)):
             task = self.tasks.pop(future)

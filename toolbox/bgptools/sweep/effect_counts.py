@@ -30,7 +30,7 @@ class Figures:
     packets: int = 0
     messages: int = 0
     down: int = 0
-    is_settled: bool = True
+    is_converged: bool = True
     is_single: bool = False
     told: List[str] = field(default_factory=list)
     routes: Dict[str, Cell] = field(default_factory=dict)
@@ -45,18 +45,18 @@ class Figures:
 
     @property
     def is_bad(self) -> bool:
-        """Whether something is lost, or does not settle."""
-        return bool(self.lost or self.black_holes or self.loops or not self.is_settled or self.mistake)
+        """Whether something is lost, or does not converge."""
+        return bool(self.lost or self.black_holes or self.loops or not self.is_converged or self.mistake)
 
     def rank(self) -> Tuple[int, ...]:
-        """Orders changes, the worst first: single points of failure, then what does not settle, then by how much."""
-        return (not self.mistake, not self.is_single, self.is_settled, -self.black_holes - self.loops, -self.lost,
+        """Orders changes, the worst first: single points of failure, then what does not converge, then by how much."""
+        return (not self.mistake, not self.is_single, self.is_converged, -self.black_holes - self.loops, -self.lost,
                 -self.moved, -len(self.told), -self.gained, -self.packets, -self.messages)
 
 
-def figures_of(difference: Difference, messages: int, is_settled: bool) -> Figures:
+def figures_of(difference: Difference, messages: int, is_converged: bool) -> Figures:
     """The numbers of a difference."""
-    found = Figures(messages=messages, is_settled=is_settled, down=len(difference.down), packets=len(difference.ways),
+    found = Figures(messages=messages, is_converged=is_converged, down=len(difference.down), packets=len(difference.ways),
                     black_holes=len(difference.black_holes), loops=len(difference.loops))
     found.told = sorted("%s %s" % way for way in difference.told)
     for router, changes in difference.routers.items():
@@ -91,7 +91,7 @@ def together(parts: List[Figures]) -> Figures:
     """The figures of one change, from those of the parts of a network that was played by its prefixes."""
     if len(parts) == 1:
         return parts[0]
-    found = Figures(is_settled=all(part.is_settled for part in parts), is_single=any(part.is_single for part in parts),
+    found = Figures(is_converged=all(part.is_converged for part in parts), is_single=any(part.is_single for part in parts),
                     down=max(part.down for part in parts))
     for name in ("moved", "lost", "gained", "black_holes", "loops", "packets", "messages"):
         setattr(found, name, sum(getattr(part, name) for part in parts))

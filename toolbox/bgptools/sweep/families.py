@@ -112,7 +112,7 @@ def files(folder: str) -> List[Trial]:
 
 
 def orders(count: int) -> List[Trial]:
-    """The base settled in so many drawn orders."""
+    """The base converged in so many drawn orders."""
     return [Trial(ORDER, "order %d" % seed, seed=seed) for seed in range(1, count + 1)]
 
 

@@ -9,12 +9,12 @@ from ..program.process_pool import ProcessPool, Workers
 from .effect_counts import Figures
 from .effect_file import Results, Task
 from .executor import gather, lost, tasks_of
-from .player import Job, Player, settled_job
+from .player import Job, Player, converged_job
 
 
 class LocalPool(ProcessPool[Task]):
-    """What a worker does: it tries changes on one part of the network after another, each settled when it is first
-    asked for. A network that was settled before the worker began is not settled again."""
+    """What a worker does: it tries changes on one part of the network after another, each converged when it is first
+    asked for. A network that was converged before the worker began is not converged again."""
 
     def __init__(self, jobs: List[Job], quiet: Optional[Baseline]) -> None:
         self.jobs, self.quiet = jobs, quiet
@@ -27,7 +27,7 @@ class LocalPool(ProcessPool[Task]):
         if self.player is None or part != self.part:
             self.close()
             job = self.jobs[part]
-            self.part, self.player = part, Player(job if job.settled else settled_job(job), self.quiet)
+            self.part, self.player = part, Player(job if job.converged else converged_job(job), self.quiet)
         return self.player
 
     def close(self) -> None:

@@ -9,7 +9,7 @@ from ..program.language import by_address, escaped
 from .effect_counts import DROPPED, LOST, Cell
 from .table import TITLES, Row, Table, numbers_of, remark
 
-COLUMNS = ("change", "single point", "settles", *TITLES, "")
+COLUMNS = ("change", "single point", "converges", *TITLES, "")
 WORDS = ("moved", "lost", "gained", "packets lost")
 
 
@@ -45,7 +45,7 @@ def _change(place: int, row: Row) -> str:
 
 def _row(table: Table, place: int, row: Row) -> str:
     trial, found = row
-    cells: List[object] = ["yes" if found.is_single else "", "yes" if found.is_settled else "no",
+    cells: List[object] = ["yes" if found.is_single else "", "yes" if found.is_converged else "no",
                            *numbers_of(found), remark(table, found)]
     told = "".join('<td data-value="{0}">{0}</td>'.format(shown(str(cell))) for cell in cells)
     return '<tr%s><td data-value="%s"><a href="#c%d">%s</a></td>%s</tr>' % (

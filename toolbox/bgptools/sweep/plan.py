@@ -12,7 +12,7 @@ from ..network.prefix_parts import Parts
 from ..program.script import Line, read
 from . import families
 from .families import Trial
-from .player import Job, Player, settled_job
+from .player import Job, Player, converged_job
 
 # A script with some of its prefixes, and the changes with these.
 Part = Tuple[List[Line], List[Trial]]
@@ -43,7 +43,7 @@ def sweep_of(chosen: argparse.Namespace) -> Sweep:
     lines = read(chosen.base)
     words = argparse.Namespace(order=chosen.order, by_router=False, seed=None, most=chosen.most, base=chosen.base)
     if chosen.by_prefix is None and chosen.scheduler is None:
-        job = settled_job(Job(lines, [], words, chosen.html))
+        job = converged_job(Job(lines, [], words, chosen.html))
         player = Player(job)
         player.close()
         job.trials = trials_of(player.quiet.network, chosen)

@@ -15,8 +15,8 @@ from ..change.effect import Outcome
 from ..change.report import text_of
 from ..change.rollback import commands_back
 from ..change.transients import Watch
-from ..change.what_if import settled_base
-from ..convergence.delivery import Settler, Settling
+from ..change.what_if import converged_base
+from ..convergence.delivery import Deliverer, Convergence
 from ..convergence.orders import Drawn, order_of
 from ..convergence.run import Run
 from ..network.configuration import Direction
@@ -37,13 +37,13 @@ DOWN, UP = {"fail", "stop"}, {"mend", "start"}
 @dataclass
 class Job:
     """A network and the changes to be tried on it. `script` is the base as it was read; `lines` is what the program
-    accepted of it, with the deliveries of `settled` that empty all queues. `chosen` has the words for orders."""
+    accepted of it, with the deliveries of `converged` that empty all queues. `chosen` has the words for orders."""
     script: List[Line]
     trials: List[Trial]
     chosen: argparse.Namespace
     has_texts: bool = False
     lines: List[str] = field(default_factory=list)
-    settled: Optional[Settling] = None
+    converged: Optional[Convergence] = None
 
 
 class Attempt:
@@ -54,7 +54,7 @@ class Attempt:
         self.touched = Touched()
         self.watch = Watch(run) if has_watch else None
         self.delivered: Set[Direction] = set()
-        self.done = Settling(run.order)
+        self.done = Convergence(run.order)
 
     def make(self) -> None:
         """Makes the change, and delivers."""
@@ -62,7 +62,7 @@ class Attempt:
             reply = self.watch.say(line) if self.watch else self.run.say(line.text)
             self.run.check(line, reply)
             self._note(line.words, reply)
-        self.done = self.run.settle()
+        self.done = self.run.converge()
         self._took(self.done)
 
     def _note(self, words: List[str], reply: List[str]) -> None:
@@ -70,34 +70,34 @@ class Attempt:
             self.touched.edit(self.run.network, words)
             self.delivered |= {(words[1], words[2])} if words[0] == "deliver" else set()
 
-    def _took(self, done: Settling) -> None:
+    def _took(self, done: Convergence) -> None:
         self.touched.deliver(done.deliveries)
         self.delivered.update(done.deliveries)
 
-    def figures(self, settled: Settling) -> Figures:
+    def figures(self, converged: Convergence) -> Figures:
         """What the change does."""
         after = After(self.run, self.quiet, self.touched)
         difference = compare(self.quiet, after, [], after.packets, has_reasons=bool(self.watch))
-        found = figures_of(difference, len(self.done.taken), self.done.is_settled)
+        found = figures_of(difference, len(self.done.taken), self.done.is_converged)
         fed = {to for _, to in self.quiet.feeds}
         found.is_single = is_single_point(self.trial, self.quiet.network, fed, difference)
         if self.watch:
-            found.text = text_of(Outcome(difference, self.watch, settled, [self.done]), False)
+            found.text = text_of(Outcome(difference, self.watch, converged, [self.done]), False)
         return found
 
     def take_back(self) -> bool:
         """Takes the change back; whether all is as it was."""
         back = commands_back(self.run.network, self.quiet.network)
-        if back is None or not self.done.is_settled or self.done.first:
+        if back is None or not self.done.is_converged or self.done.first:
             return False
         moved = {way for way, is_up in self.run.sessions_up().items() if is_up != self.quiet.is_up[way]}
         for line in back:
             self._say(line)
         for line in self._feeds():
             self._say(line)
-        done = self.run.settler.settle()
+        done = self.run.deliverer.converge()
         self._took(done)
-        return done.is_settled and commands_back(self.run.network, self.quiet.network) == [] and self._holds(moved)
+        return done.is_converged and commands_back(self.run.network, self.quiet.network) == [] and self._holds(moved)
 
     def _say(self, line: str) -> None:
         self._note(line.split(" "), self.run.say(line))
@@ -158,7 +158,7 @@ class Player:
         try:
             attempt.make()
             self._follow(self.quiet.addresses(self.run.network.prefixes))
-            found = attempt.figures(self.job.settled or attempt.done)
+            found = attempt.figures(self.job.converged or attempt.done)
             is_back = attempt.take_back()
         except ProgramEnded:
             raise
@@ -175,8 +175,8 @@ class Player:
         run.network.prefixes, run.network.communities = set(quiet.network.prefixes), set(quiet.network.communities)
         run.network.names.of = dict(quiet.network.names.of)
         run.order, run.has_tried_all = order_of(self.job.chosen), False
-        run.settler = Settler(run.program, run.network, run.order, run.most)
-        run.settler.waiting.knows_all = False
+        run.deliverer = Deliverer(run.program, run.network, run.order, run.most)
+        run.deliverer.waiting.knows_all = False
         quiet.follow(run, quiet.addresses(quiet.network.prefixes | _named(trial)))
 
     def _follow(self, addresses: List[str]) -> None:
@@ -191,15 +191,15 @@ class Player:
         self.run = self._fresh()
 
     def _ordered(self, trial: Trial) -> Figures:
-        """The base, settled in a drawn order, beside the quiet one."""
+        """The base, converged in a drawn order, beside the quiet one."""
         with Run(Drawn(trial.seed), self.job.chosen.most) as run:
             run.play(self.job.script)
-            watch, done = Watch(run), run.settle()
+            watch, done = Watch(run), run.converge()
             difference = compare(self.quiet, run, [], has_reasons=self.job.has_texts)
-            found = figures_of(difference, len(done.taken), done.is_settled)
-            found.state = run.state() if done.is_settled else ""
+            found = figures_of(difference, len(done.taken), done.is_converged)
+            found.state = run.state() if done.is_converged else ""
             if self.job.has_texts:
-                found.text = text_of(Outcome(difference, watch, self.job.settled or done, [done]), False)
+                found.text = text_of(Outcome(difference, watch, self.job.converged or done, [done]), False)
         return found
 
     def close(self) -> None:
@@ -212,9 +212,9 @@ def _named(trial: Trial) -> Set[str]:
     return {each[PLACES[each[0]]] for each in words if each[0] in PLACES and len(each) > PLACES[each[0]]}
 
 
-def settled_job(job: Job) -> Job:
-    """The job with its base settled. Mistake where that has a mistake, or settles in no order that is tried."""
-    run, done = settled_base(job.script, job.chosen)
+def converged_job(job: Job) -> Job:
+    """The job with its base converged. Mistake where that has a mistake, or converges in no order that is tried."""
+    run, done = converged_base(job.script, job.chosen)
     with run:
-        job.lines, job.settled = list(run.lines), done
+        job.lines, job.converged = list(run.lines), done
     return job

@@ -29,7 +29,7 @@ class Table:
         order = sorted(range(len(rows)), key=lambda at: (figures[at].rank(), at))
         self.rows, self.places = [rows[at] for at in order], [at + 1 for at in order]
         self.states: Dict[str, List[int]] = {}
-        for trial, found in (row for row in rows if row[0].kind == ORDER and row[1].is_settled and not row[1].mistake):
+        for trial, found in (row for row in rows if row[0].kind == ORDER and row[1].is_converged and not row[1].mistake):
             self.states.setdefault(found.state, []).append(trial.seed)
         self.known = sorted(self.states, key=lambda state: (-len(self.states[state]), self.states[state]))
 
@@ -45,9 +45,9 @@ class Table:
     def summary(self) -> List[str]:
         """How many changes there are, and what they do."""
         singles = sum(found.is_single for _, found in self.rows)
-        endless = sum(not found.is_settled for _, found in self.rows)
-        losing = sum(found.is_bad and found.is_settled for _, found in self.rows)
-        lines = ["%s of %s: %s, %d that %s something, %d that %s not settle" % (
+        endless = sum(not found.is_converged for _, found in self.rows)
+        losing = sum(found.is_bad and found.is_converged for _, found in self.rows)
+        lines = ["%s of %s: %s, %d that %s something, %d that %s not converge" % (
             count(len(self.rows), "change"), self.base,
             count(singles, "single point of failure", "single points of failure"),
             losing, "loses" if losing == 1 else "lose", endless, "does" if endless == 1 else "do")]
@@ -71,7 +71,7 @@ def remark(table: Table, found: Figures) -> str:
     if found.mistake:
         return found.mistake
     state = table.state_of(found)
-    return "DOES NOT SETTLE" if not found.is_settled else "state %d" % state if state else ""
+    return "DOES NOT CONVERGE" if not found.is_converged else "state %d" % state if state else ""
 
 
 def text_of(table: Table) -> str:
@@ -93,9 +93,9 @@ def csv_of(table: Table) -> str:
     """The table as CSV, with a head."""
     made = io.StringIO()
     writer = csv.writer(made, lineterminator="\n")
-    writer.writerow(["number", "change", "kind", "single_point", "settles", *NUMBERS, "packets", "state", "mistake"])
+    writer.writerow(["number", "change", "kind", "single_point", "converges", *NUMBERS, "packets", "state", "mistake"])
     for place, (trial, found) in zip(table.places, table.rows):
-        writer.writerow([place, trial.title, trial.kind, int(found.is_single), int(found.is_settled),
+        writer.writerow([place, trial.title, trial.kind, int(found.is_single), int(found.is_converged),
                          *numbers_of(found), found.packets, table.state_of(found) or "", found.mistake])
     return made.getvalue()
 
@@ -104,7 +104,7 @@ def _json_row(table: Table, place: int, trial: Trial, found: Figures) -> Dict[st
     told = [dict(zip(("router", "neighbour"), way.split(" "))) for way in found.told]
     names = ("moved", "lost", "gained", "packets_lost")
     return {"number": place, "change": trial.title, "kind": trial.kind, "commands": [readable(line.text) for line in trial.lines],
-            "single_point": found.is_single, "converged": found.is_settled, **dict(zip(NUMBERS, numbers_of(found))),
+            "single_point": found.is_single, "converged": found.is_converged, **dict(zip(NUMBERS, numbers_of(found))),
             "packets": found.packets, "neighbours": told, "state": table.state_of(found) or None,
             "mistake": found.mistake or None, "routers": {
                 router: dict(zip(names, found.routes[router])) for router in sorted(found.routes, key=by_address)}}

@@ -26,7 +26,7 @@ def tell(net: Network, title: str) -> None:
 def main() -> None:
     for name in ("drained-link.bgp", "three-ases.bgp"):
         with Network.load(LESSONS / name) as net:
-            net.settle()
+            net.converge()
             tell(net, name)
 
 

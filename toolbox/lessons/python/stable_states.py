@@ -1,12 +1,12 @@
-"""The stable states of two networks that do not settle in the fair order: two ASes that prefer each other (DISAGREE),
+"""The stable states of two networks that do not converge in the fair order: two ASes that prefer each other (DISAGREE),
 and the route reflectors of RFC 3345, where MED is compared within one neighbouring AS.
 
-Each is settled in 20 drawn orders, each on a copy; states are told with how often they came."""
+Each is converged in 20 drawn orders, each on a copy; states are told with how often they came."""
 import pathlib
 from collections import Counter
 from typing import Tuple
 
-from bgptools import Network, Unsettled
+from bgptools import Network, NotConverged
 
 LESSONS = pathlib.Path(__file__).resolve().parents[1]
 ORDERS = 20
@@ -38,13 +38,13 @@ def rfc_3345() -> Network:
 
 
 def states(net: Network) -> "Counter[State]":
-    """In which states drawn orders end, and how often; none of them is where one does not settle."""
+    """In which states drawn orders end, and how often; none of them is where one does not converge."""
     found: "Counter[State]" = Counter()
     for seed in range(1, ORDERS + 1):
         with net.copy() as trial:
             try:
-                trial.settle(seed=seed)
-            except Unsettled:
+                trial.converge(seed=seed)
+            except NotConverged:
                 found[()] += 1
             else:
                 found[tuple((route.router, route.path) for route in trial.table())] += 1
@@ -56,7 +56,7 @@ def tell(title: str, net: Network) -> None:
     found = states(net)
     print("%s: %d stable, in %d drawn orders" % (title, len(found) - (() in found), ORDERS))
     for state, count in sorted(found.items(), key=lambda each: (-each[1], each[0])):
-        told = "; ".join("%s by %s" % each for each in state) or "it does not settle"
+        told = "; ".join("%s by %s" % each for each in state) or "it does not converge"
         print("  in %d: %s" % (count, told))
 
 

@@ -14,7 +14,7 @@ from unittest import mock
 
 import bgptools
 from bgptools import (
-    Cost, Delivery, Effect, Link, Message, Mistake, Network, Node, Reason, Refusal, Route, Session, Unsettled
+    Cost, Delivery, Effect, Link, Message, Mistake, Network, Node, Reason, Refusal, Route, Session, NotConverged
 )
 from bgptools.api import commands, effect, network as interface, values
 from bgptools.program import language, line_count
@@ -150,14 +150,14 @@ class Calls(Base):
 
     def test_what_is_advertised_is_what_the_peer_receives(self):
         net = self.network(TWO)
-        net.settle()
+        net.converge()
         told = net.advertised("1.0.0.1", "2.0.0.1")
         self.assertEqual([(each.router, each.source, each.path) for each in told], [("2.0.0.1", "1.0.0.1", "1")])
         self.assertEqual(told, net.received("2.0.0.1", "1.0.0.1"))
 
     def test_reasons_say_what_they_mean(self):
         net = self.network(TWO + "origin 2.0.0.1 10.0.0.0/8\n")
-        net.settle()
+        net.converge()
         self.assertEqual(net.why("2.0.0.1", "10.0.0.0/8"), [
             Reason("2.0.0.1", "10.0.0.0/8", "self", "best", "it is chosen"),
             Reason("2.0.0.1", "10.0.0.0/8", "1.0.0.1", "length", "another has a shorter path")])
@@ -227,7 +227,7 @@ class Scripts(Base):
 
     def test_it_is_its_script(self):
         net = self.network(TWO + "quiet\n# a comment\n# name 1.0.0.1 west\n")
-        net.settle()
+        net.converge()
         net.save(self.folder / "kept.bgp")
         wanted = TWO + "# name 1.0.0.1 west\ndeliver 1.0.0.1 2.0.0.1\n"
         self.assertEqual((net.script(), (self.folder / "kept.bgp").read_text(), net.step), (wanted, wanted, 7))
@@ -239,14 +239,14 @@ class Scripts(Base):
         other = self.keep(net.copy())
         other.origin("2.0.0.1", "20.0.0.0/8")
         self.assertEqual([each.prefix for each in other.queue("1.0.0.1", "2.0.0.1")], ["10.0.0.0/8"])
-        self.assertEqual(len(other.settle().deliveries), 2)
+        self.assertEqual(len(other.converge().deliveries), 2)
         self.assertEqual((net.quiet(), net.table("20.0.0.0/8"), net.script()), (False, [], TWO))
         net.close()
         self.assertEqual([each.router for each in other.table("20.0.0.0/8")], ["1.0.0.1", "2.0.0.1"])
 
     def test_the_network_at_each_step_is_that_of_so_many_lines(self):
         net = self.loaded(LESSONS / "disagree.bgp")
-        net.settle("router")
+        net.converge(seed=3)
         lines = net.script().splitlines()
         self.assertEqual(net.step, len(lines))
         for step in range(net.step + 1):
@@ -283,15 +283,15 @@ class Scripts(Base):
             self.assertEqual((net.script(), net.quiet()), (TWO, False))
         net.run.program.process.kill()
         with self.assertRaisesRegex(Mistake, "the program ended before it had answered, by signal 9"):
-            net.settle()
-        self.assertEqual(len(net.settle().deliveries), 1)
+            net.converge()
+        self.assertEqual(len(net.converge().deliveries), 1)
 
     def test_more_lines_than_one_run_reads(self):
         kept = line_count.MOST_LINES, line_count.NEAR
         self.addCleanup(lambda: (setattr(line_count, "MOST_LINES", kept[0]), setattr(line_count, "NEAR", kept[1])))
         line_count.MOST_LINES, line_count.NEAR = 40, 2
         net = self.network(TWO)
-        net.settle()
+        net.converge()
         for _ in range(100):
             self.assertEqual(net.best("2.0.0.1", "10.0.0.0/8").path, "1")
         self.assertEqual(self.keep(net.copy()).script(), net.script())
@@ -299,16 +299,16 @@ class Scripts(Base):
 
 class Deliveries(Base):
     def test_an_order_is_the_tools(self):
-        """The script of a network that was settled at its end is the one that the tool writes."""
+        """The script of a network that was converged at its end is the one that the tool writes."""
         path, seen = DATA / "ring.bgp", set()
         for words, how in (((), {}), (("--router",), {"order": "router"}), (("--order", "fair"), {"order": "fair"}),
                            (("--seed", "3"), {"seed": 3}), (("--order", "drawn"), {"order": "drawn"}),
                            (("--seed", "7"), {"order": "drawn", "seed": 7})):
             net = self.loaded(path)
             base = len(net.script().splitlines())
-            done = self.keep(net.copy()).settle(**how), net.settle(**how)
+            done = self.keep(net.copy()).converge(**how), net.converge(**how)
             self.assertEqual(*done)
-            written = tool("settle", path, "--at-end", *words, status=0).stdout
+            written = tool("converge", path, "--at-end", *words, status=0).stdout
             self.assertEqual(*(re.findall("^deliver .*$", script, re.M) for script in (net.script(), written)))
             self.assertEqual(len(done[0].deliveries), net.step - base)
             self.assertTrue(net.quiet())
@@ -319,22 +319,22 @@ class Deliveries(Base):
         """Also where the network knows what its routers chose, and a drawn order depends on that."""
         for seed in range(1, 6):
             net = self.network((DATA / "ring.bgp").read_text())
-            net.settle()
+            net.converge()
             other = self.keep(net.copy())
             for each in (net, other):
                 each.noorigin("1.0.0.1", "10.1.0.0/16")
                 each.noorigin("1.0.0.4", "10.4.0.0/16")
-            self.assertEqual(other.settle(seed=seed), net.settle(seed=seed))
+            self.assertEqual(other.converge(seed=seed), net.converge(seed=seed))
 
-    def test_a_step_settles_as_the_tool_settles_its_script(self):
+    def test_a_step_converges_as_the_tool_converges_its_script(self):
         net = self.loaded(DATA / "ring.bgp")
-        net.settle()
+        net.converge()
         for step in (net.step - 5, net.step - 20, net.step // 2):
             before = self.keep(net.at(step)).script()
             for seed in (1, 2):
                 with net.at(step) as trial:
-                    trial.settle(seed=seed)
-                    written = tool("settle", "-", "--at-end", "--seed", seed, given=before.encode(), status=0).stdout
+                    trial.converge(seed=seed)
+                    written = tool("converge", "-", "--at-end", "--seed", seed, given=before.encode(), status=0).stdout
                     self.assertEqual(trial.script(), written)
 
     def test_each_seed_of_disagree_ends_as_with_the_tool(self):
@@ -343,22 +343,22 @@ class Deliveries(Base):
         for seed in range(1, 11):
             with net.copy() as trial:
                 try:
-                    trial.settle(seed=seed)
-                except Unsettled:
+                    trial.converge(seed=seed)
+                except NotConverged:
                     ends.append("endless")
                 else:
                     ends.append(trial.best("left", "203.0.113.0/24").path)
-        told = tool("settle", LESSONS / "disagree.bgp", "--at-end", "--states", "10", status=1).stdout
+        told = tool("converge", LESSONS / "disagree.bgp", "--at-end", "--states", "10", status=1).stdout
         for path, count in (("2,3", ends.count("2,3")), ("3", ends.count("3"))):
             seen = r"in %d of 10, as with --seed %d\n  [^\n]* path %s, " % (count, ends.index(path) + 1, path)
             self.assertRegex(told, seen)
         endless = ends.count("endless"), ends.index("endless") + 1
-        self.assertIn("\n%d of 10 did not settle, as with --seed %d: " % endless, told)
+        self.assertIn("\n%d of 10 did not converge, as with --seed %d: " % endless, told)
 
-    def test_what_does_not_settle(self):
+    def test_what_does_not_converge(self):
         net = self.loaded(LESSONS / "disagree.bgp")
-        with self.assertRaises(Unsettled) as fault:
-            net.settle()
+        with self.assertRaises(NotConverged) as fault:
+            net.converge()
         told = fault.exception
         self.assertEqual((told.period, told.keeps_changing), (8, {"203.0.113.0/24": ["1.0.0.1", "2.0.0.1"]}))
         self.assertEqual(str(told), "in the fair order the same state comes back every 8 deliveries; 203.0.113.0/24 "
@@ -366,18 +366,18 @@ class Deliveries(Base):
         self.assertEqual(["deliver %s %s" % (each.sender, each.receiver) for each in told.deliveries],
                          [line for line in net.script().splitlines() if line.startswith("deliver")])
         net = self.loaded(LESSONS / "disagree.bgp")
-        done = net.settle(tries_others=True)
-        self.assertEqual(done.order, "router by router")
-        self.assertRegex(done.note, "^in the fair order .*; it settles router by router; of 9 .*, in 2 stable states$")
+        done = net.converge(tries_others=True)
+        self.assertEqual(done.order, "in the drawn order 3")
+        self.assertRegex(done.note, "^in the fair order .*; it converges in the drawn order 3; of 9 .*, in 2 stable states$")
         self.assertTrue(net.quiet())
 
     def test_at_most_so_many(self):
         net = self.network(TWO + "origin 1.0.0.1 20.0.0.0/8\n")
-        with self.assertRaises(Unsettled) as fault:
-            net.settle(most=1)
+        with self.assertRaises(NotConverged) as fault:
+            net.converge(most=1)
         told = "in the fair order it is not quiet after 1 deliveries: most=N allows more"
         self.assertEqual(str(fault.exception), told)
-        self.assertEqual(net.settle().deliveries, (Delivery("1.0.0.1", "2.0.0.1", "update", "20.0.0.0/8"),))
+        self.assertEqual(net.converge().deliveries, (Delivery("1.0.0.1", "2.0.0.1", "update", "20.0.0.0/8"),))
 
     def test_one_order(self):
         net = self.network(TWO)
@@ -386,7 +386,7 @@ class Deliveries(Base):
                             (("drawn", -3), "a seed is a number of 0 to 4294967295, and not -3"),
                             ((None, "x"), "a seed is a number of 0 to 4294967295, and not 'x'")):
             with self.assertRaisesRegex(Mistake, "^" + text):
-                net.settle(*words)
+                net.converge(*words)
 
 
 class Changes(Base):
@@ -406,7 +406,7 @@ class Changes(Base):
 
     def same(self, found, told):
         """An effect is what the tool tells as JSON."""
-        self.assertEqual((found.is_changed, found.is_settled, found.keeps_changing),
+        self.assertEqual((found.is_changed, found.is_converged, found.keeps_changing),
                          (True, told["converged"], told["keeps_changing"]))
         self.assertEqual([(each.router, each.kind, each.prefix, each.reason) for each in found.routes],
                          [(each["router"], each["kind"], each["prefix"], each["reason"]) for each in told["routes"]])
@@ -455,7 +455,7 @@ class Changes(Base):
             net.what_if([], trace=[("9.9.9.9", "1.2.3.4")])
         with self.assertRaisesRegex(Refusal, "^refused 1 syntax: "):
             net.what_if([], trace=[("west", "x")])
-        with self.assertRaisesRegex(Unsettled, "^the base does not settle: .*none settles"):
+        with self.assertRaisesRegex(NotConverged, "^the base does not converge: .*none converges"):
             lesson = self.loaded(TOP / "examples/lessons/med-oscillation.bgp")
             before = lesson.script().splitlines().index("rule 1.0.0.3 6.0.0.1 in any permit med=0")
             self.keep(lesson.at(before)).what_if([])
@@ -471,7 +471,7 @@ class Changes(Base):
 
     def test_another_order_is_told(self):
         found = self.loaded(LESSONS / "disagree.bgp").what_if(["origin 3.0.0.1 20.0.0.0/8"])
-        self.assertEqual([note.split(";")[2] for note in found.notes], [" it settles router by router"] * 2)
+        self.assertEqual([note.split(";")[2] for note in found.notes], [" it converges in the drawn order 3"] * 2)
 
 
 class More(Base):
@@ -491,13 +491,13 @@ class More(Base):
     def test_a_picture_is_what_draw_draws(self):
         path = LESSONS / "customers.bgp"
         net = self.loaded(path)
-        net.settle()
-        words = ("--settle", "--prefix", "203.0.113.0/24", "--trace", "east", "203.0.113.1")
+        net.converge()
+        words = ("--converge", "--prefix", "203.0.113.0/24", "--trace", "east", "203.0.113.1")
         told = {"prefix": "203.0.113.0/24", "trace": ("east", "203.0.113.1")}
         self.assertEqual(net.picture("dot", **told), tool("draw", path, *words, status=0).stdout)
         near = {"sessions": False, "of": "east", "hops": 2}, ("--no-sessions", "--of", "east", "--hops", "2")
         for how, chosen in (near, ({"only": [5]}, ("--only", "5"))):
-            drawn = tool("draw", path, "--settle", *chosen, status=0).stdout
+            drawn = tool("draw", path, "--converge", *chosen, status=0).stdout
             self.assertEqual(net.picture("dot", **how), drawn)
         for call, text in ((lambda: net.picture("png"), "a picture is `svg` or `dot`, and not 'png'"),
                            (lambda: net.picture(prefix="x"), "--prefix x: ")):
@@ -554,7 +554,7 @@ class Package(Base):
             from bgptools import Nothing  # noqa: F401
 
     def test_a_tool_begins_without_it(self):
-        asks = ("import sys, bgptools.cli.settle; print('bgptools.api.network' in sys.modules); "
+        asks = ("import sys, bgptools.cli.converge; print('bgptools.api.network' in sys.modules); "
                 "from bgptools import *; print(Network.__module__)")
         told = alone([sys.executable, "-B", "-c", asks], TOOLBOX)
         self.assertEqual((told.stdout, told.stderr), (b"False\nbgptools.api.network\n", b""))

@@ -50,10 +50,10 @@ class Orders(unittest.TestCase):
         ends = []
         for words in ({}, {"order": "router"}, {"seed": seed}):
             with Network.from_lines(lines) as net:
-                net.settle(**words)
+                net.converge(**words)
                 before = net.table()
                 net.play(failures)
-                net.settle(**words)
+                net.converge(**words)
                 self.assertTrue(net.quiet())
                 ends.append((before, net.table()))
         self.assertEqual(ends, [ends[0]] * 3)
@@ -62,10 +62,10 @@ class Orders(unittest.TestCase):
     def test_failures_that_are_mended_leave_nothing(self, network, seed):
         lines, failures = network
         with Network.from_lines(lines) as net:
-            net.settle()
+            net.converge()
             before = net.table()
             net.play(failures)
-            net.settle(seed=seed)
+            net.converge(seed=seed)
             net.play([line.replace("fail", "mend") for line in failures])
-            net.settle(seed=seed)
+            net.converge(seed=seed)
             self.assertEqual(net.table(), before)

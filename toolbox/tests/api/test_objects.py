@@ -11,8 +11,8 @@ import unittest
 from ipaddress import IPv4Address, IPv4Network, IPv6Address
 
 import bgptools
-from bgptools import Mistake, Network, Refusal, Unsettled
-from bgptools.convergence.delivery import Settling
+from bgptools import Mistake, Network, Refusal, NotConverged
+from bgptools.convergence.delivery import Convergence
 from bgptools.convergence.orders import named
 from bgptools.program.process import ProgramEnded
 from bgptools.program.streams import Unwritable
@@ -41,9 +41,9 @@ def refused_in_a_script(path):
     Network.load(path)
 
 
-def unsettled(_):
+def not_converged(_):
     with Network.load(LESSONS / "disagree.bgp") as net:
-        net.settle()
+        net.converge()
 
 
 def mistaken(_):
@@ -72,7 +72,7 @@ def fault_of(call, given):
 # What an exception is made of, by the names of the parameters.
 GIVEN = {"text": "a text", "file": "a file", "line": 7, "number": 5, "status": 404, "command": "fail 1.0.0.1 2.0.0.1",
          "reply": "refused 2 no-router", "explanation": "there is no router", "error": OSError(5, "a text"),
-         "done": Settling(named("fair", None), [("1.0.0.1", "2.0.0.1")], ["took 10.0.0.0/8 update"], False,
+         "done": Convergence(named("fair", None), [("1.0.0.1", "2.0.0.1")], ["took 10.0.0.0/8 update"], False,
                           {"10.0.0.0/8": ["1.0.0.1"]}, 8),
          "found": Recovered(3, 5, 1, 2, [])}
 
@@ -96,9 +96,9 @@ def made_of(kind):
 class Faults(Case):
     def test_each_exception_of_the_package_is_pickled_and_copied(self):
         kinds = list(exceptions())
-        self.assertLessEqual({Mistake, Refusal, Unsettled, ProgramEnded, Malformed, Unkept, Unwritable}, set(kinds))
+        self.assertLessEqual({Mistake, Refusal, NotConverged, ProgramEnded, Malformed, Unkept, Unwritable}, set(kinds))
         public = [getattr(bgptools, name) for name in bgptools.__all__ if inspect.isclass(getattr(bgptools, name))]
-        self.assertEqual({kind for kind in public if issubclass(kind, BaseException)}, {Mistake, Refusal, Unsettled})
+        self.assertEqual({kind for kind in public if issubclass(kind, BaseException)}, {Mistake, Refusal, NotConverged})
         for kind in kinds:
             with self.subTest(kind=kind):
                 fault = made_of(kind)
@@ -113,7 +113,7 @@ class Faults(Case):
 
     def test_a_pool_of_processes_brings_each_fault(self):
         path = self.file("a.bgp", TWO + "# name 1.0.0.1 west\nfail 1.0.0.1 9.0.0.1\n")
-        calls = {refused: Refusal, refused_in_a_script: Refusal, unsettled: Unsettled, mistaken: Mistake,
+        calls = {refused: Refusal, refused_in_a_script: Refusal, not_converged: NotConverged, mistaken: Mistake,
                  ended: ProgramEnded}
         context = multiprocessing.get_context("fork")
         with context.Pool(2) as pool, concurrent.futures.ProcessPoolExecutor(2, context) as executor:
@@ -131,7 +131,7 @@ class Faults(Case):
                 executor.submit(network, 0).result(PATIENCE)
 
     def test_pickle_and_copy_make_each_fault_again(self):
-        faults = [fault_of(call, 0) for call in (refused, unsettled, mistaken)]
+        faults = [fault_of(call, 0) for call in (refused, not_converged, mistaken)]
         faults += [Malformed("a request", "an id"), Unkept("a log", "a file")]
         for fault in faults:
             for protocol in range(pickle.HIGHEST_PROTOCOL + 1):
@@ -144,7 +144,7 @@ class Copies(Case):
     def test_copy_makes_a_second_run(self):
         with Network.from_lines(TWO) as net, copy.copy(net) as other:
             self.assertIsNot(net.run, other.run)
-            self.assertEqual((other.script(), len(other.settle().deliveries)), (TWO, 1))
+            self.assertEqual((other.script(), len(other.converge().deliveries)), (TWO, 1))
             self.assertEqual((net.script(), net.quiet()), (TWO, False))
             other.close()
             self.assertEqual(net.best("1.0.0.1", "10.0.0.0/8").source, "self")
@@ -162,7 +162,7 @@ class Copies(Case):
     def test_answers_are_pickled_and_copied(self):
         with Network.from_lines(TWO) as net:
             effect = net.what_if("fail 1.0.0.1 2.0.0.1", trace=[("2.0.0.1", "10.0.0.1")])
-            for found in (net.settle(), net.table(), net.nodes(), net.explain("2.0.0.1", "10.0.0.0/8"), effect):
+            for found in (net.converge(), net.table(), net.nodes(), net.explain("2.0.0.1", "10.0.0.0/8"), effect):
                 self.assertEqual(pickle.loads(pickle.dumps(found)), found)
                 self.assertEqual(copy.deepcopy(found), found)
 
@@ -188,7 +188,7 @@ class Given(Case):
                 net.feed(at(seven), at(one), "update", at(eleven), (asn for asn in (7, 21)), comm=iter([9, 2]))
                 waits = net.queue(at(seven), at(one)), net.deliver(at(seven), at(one))
                 effect = net.what_if(iter(["fail west 2.0.0.1"]), iter([(at(two), at(IPv4Address("10.0.0.9")))]))
-                net.settle()
+                net.converge()
                 return [waits, effect, net.routes(at(two)), net.best(at(two), at(ten)), net.why(at(two), at(eleven)),
                         net.received(at(two), at(one)), net.advertised(at(one), at(two)), net.table(at(ten)),
                         net.trace(at(two), at(IPv4Address("11.0.0.1"))), net.cost(at(one), at(one)),
@@ -244,7 +244,7 @@ class Given(Case):
                 "rule 1.0.0.1 7.0.0.1 in any permit pref=50"])
             with net.at(of(4)) as before, net.copy() as other:
                 self.assertEqual(before.step, 4)
-                self.assertEqual(net.settle(seed=of(3), most=of(99)), other.settle(seed=3, most=99))
+                self.assertEqual(net.converge(seed=of(3), most=of(99)), other.converge(seed=3, most=99))
             with self.assertRaisesRegex(Mistake, "^one word of a command is expected, and not array"):
                 net.router("2.0.0.1", numpy.array([1, 2]))
 

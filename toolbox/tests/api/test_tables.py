@@ -15,7 +15,7 @@ from unittest import mock
 import bgptools
 from bgptools import (
     Delivery, Explanation, InBetween, Link, Message, Mistake, Network, Node, Reason, Route, RouteChange, Sent, Session,
-    Settled, Table, Trace, WayChange, read_sweep)
+    Converged, Table, Trace, WayChange, read_sweep)
 from bgptools.api import tables
 from bgptools.api.columns import CATEGORIES
 from common import TOOLBOX, TOP, Case, alone, tool
@@ -94,7 +94,7 @@ class Frames(Case):
     def effect(self):
         """The effect of a change that leaks routes for a while: each table of it has rows, but that of asked packets."""
         with Network.load(TOP / "examples" / "lessons" / "valley-free.bgp") as net:
-            net.settle()
+            net.converge()
             return net.what_if((TOOLBOX / "lessons" / "valley.change").read_text())
 
     def test_a_frame_has_what_the_program_replies(self):
@@ -112,7 +112,7 @@ class Frames(Case):
 
     def test_each_column_of_each_kind_has_a_type(self):
         known = {name for name in bgptools.__all__ if dataclasses.is_dataclass(getattr(bgptools, name))}
-        self.assertEqual(known - {kind.__name__ for kind in ROWS}, {"Cost", "Effect", "Settled", "Trace"})
+        self.assertEqual(known - {kind.__name__ for kind in ROWS}, {"Cost", "Effect", "Converged", "Trace"})
         for kind in (*ROWS, bgptools.Cost, Trace):
             frame = Table([], kind).to_pandas()
             self.assertEqual({str(each) for each in frame.dtypes} - {"string", "Int64", "boolean", "category"}, set())
@@ -214,7 +214,7 @@ class Pages(Case):
         self.addCleanup(net.close)
         for node, name in zip(net.nodes(), MARKUP):
             net.name(node.address, name)
-        net.settle()
+        net.converge()
         return net
 
     def test_a_table_as_a_page(self):
@@ -231,7 +231,7 @@ class Pages(Case):
     def test_names_are_escaped(self):
         net = self.marked()
         effect = net.what_if(["fail 5.0.0.3 7.0.0.1"])
-        for page in (net.nodes()._repr_html_(), effect._repr_html_(), Settled(MARKUP[0], (), MARKUP[1])._repr_html_(),
+        for page in (net.nodes()._repr_html_(), effect._repr_html_(), Converged(MARKUP[0], (), MARKUP[1])._repr_html_(),
                      Table([Delivery(*MARKUP, MARKUP[0])])._repr_html_()):
             read = Tags(page)
             self.assertEqual({tag for tag, _ in read.tags} - {"table", "thead", "tbody", "tr", "th", "td", "p", "h4"}, set())

@@ -39,7 +39,7 @@ from bgptools.program.process import Program
 inner = Program()
 for line in sys.stdin.buffer:
     line = line.decode("latin-1")[:-1]
-    reply = inner.say(line)
+    reply = inner.request(line)
     if line.startswith("out "):
         reply = %s
     print("".join(each + "\\n" for each in reply), end="", flush=True)
@@ -112,7 +112,7 @@ join 9.0.0.1 2.0.0.1
 feed 1.0.0.1 9.0.0.1 update 198.51.100.0/24 1 igp 10
 feed 1.0.0.2 9.0.0.1 update 198.51.100.0/24 1 igp 5
 feed 2.0.0.1 9.0.0.1 update 198.51.100.0/24 2 igp 0""".split("\n")))
-        told = tool("explain", "--settle", script, "9.0.0.1", "198.51.100.0/24", status=0).stdout
+        told = tool("explain", "--converge", script, "9.0.0.1", "198.51.100.0/24", status=0).stdout
         self.assertIn("from 1.0.0.1         lost by MED: 10 against 5 of 1.0.0.2, compared among routes of AS 1\n", told)
         self.assertIn("from 1.0.0.2         lost by cost to the next hop: 30 against 20 of 2.0.0.1", told)
 
@@ -131,9 +131,9 @@ feed 2.0.0.1 9.0.0.1 update 198.51.100.0/24 2 igp 0""".split("\n")))
 
     def test_another_order_is_told(self):
         script = TOP / "toolbox/lessons/disagree.bgp"
-        told = tool("explain", "--settle", script, "left", "203.0.113.0/24", status=0)
-        self.assertRegex(told.stderr, "in the fair order .*; it settles router by router; .* in 2 stable states\n")
-        self.assertEqual(tool("explain", "--settle", "--router", script, "left", "203.0.113.0/24", status=0).stderr, "")
+        told = tool("explain", "--converge", script, "left", "203.0.113.0/24", status=0)
+        self.assertRegex(told.stderr, "in the fair order .*; it converges in the drawn order 3; .* in 2 stable states\n")
+        self.assertEqual(tool("explain", "--converge", "--seed", 3, script, "left", "203.0.113.0/24", status=0).stderr, "")
 
     def test_mistakes(self):
         self.assertIn("there is no router 9.9.9.9 in the script; it has 1.0.0.1, 2.0.0.1", tool("explain", "examples/hijack.bgp", "9.9.9.9", "10.0.0.0/8", status=2).stderr)
@@ -141,7 +141,7 @@ feed 2.0.0.1 9.0.0.1 update 198.51.100.0/24 2 igp 0""".split("\n")))
 
 
 class To(Case):
-    def told(self, *lines, router="rr", peer="8.0.0.1", prefix="10.0.0.0/8", words=("--settle",), status=0):
+    def told(self, *lines, router="rr", peer="8.0.0.1", prefix="10.0.0.0/8", words=("--converge",), status=0):
         """What is told of a network of AS 5 with these lines, but its first line."""
         script = self.file("five.bgp", AS_FIVE + "".join(lines))
         told = tool("explain", *words, script, router, prefix, "--to", peer, status=status).stdout
@@ -265,7 +265,7 @@ class To(Case):
             program_of = self.file("liar", LIAR % (sys.executable, str(TOOLBOX), os.environ["PROGRAM"], reply))
             program_of.chmod(0o755)
             with mock.patch.dict(os.environ, {"PROGRAM": str(program_of)}):
-                told = tool("explain", "--settle", script, "rr", "10.0.0.0/8", "--to", "8.0.0.1", status=3).stdout
+                told = tool("explain", "--converge", script, "rr", "10.0.0.0/8", "--to", "8.0.0.1", status=3).stdout
             self.assertTrue(told.startswith("10.0.0.0/8 at rr (5.0.0.1): %s to 8.0.0.1\n" % begin), told)
             self.assertTrue(told.endswith(otherwise), told)
             self.assertEqual("med=7" in told, begin == "advertised")

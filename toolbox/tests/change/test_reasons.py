@@ -19,7 +19,7 @@ from bgptools.program.process import Program
 inner = Program()
 for line in sys.stdin.buffer:
     line = line.decode("latin-1")[:-1]
-    reply = inner.say(line)
+    reply = inner.request(line)
     if line.startswith("why "):
         reply = [each + "\\n" if each.split(" ")[-1] != %r else each.split(" ")[0] + " frobbed\\n" for each in reply]
     else:

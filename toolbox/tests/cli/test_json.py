@@ -61,7 +61,7 @@ class Json(Case):
         return found
 
     def test_each_schema_is_one_of_a_tool_or_of_values(self):
-        tools = ("explain", "play", "settle", "sweep", "what-if")
+        tools = ("explain", "play", "converge", "sweep", "what-if")
         self.assertEqual(set(self.judges), {"language.json", "request.json", "values.json"} | {name + ".json" for name in tools})
 
     def test_a_schema_refuses_what_it_does_not_name(self):
@@ -77,7 +77,7 @@ class Json(Case):
         self.assertTrue(judge.is_valid(found))
 
     def test_objects_are_closed_and_all_fields_are_there(self):
-        """But for the deliveries after a command, which are there with --settle alone."""
+        """But for the deliveries after a command, which are there with --converge alone."""
         found = {name: list(open_objects(schema)) for name, schema in schemas().items() if name != "request.json"}
         self.assertEqual(found.pop("play.json"), [("", ["convergence"])])
         self.assertEqual({name: each for name, each in found.items() if each}, {})
@@ -165,11 +165,11 @@ class Json(Case):
     def test_deliveries_after_each_command(self):
         lines = (b"router 1.0.0.1 1\nrouter 2.0.0.1 2\nlink 1.0.0.1 2.0.0.1 1\njoin 1.0.0.1 2.0.0.1\n"
                  b"origin 1.0.0.1 10.0.0.0/8\n")
-        found = self.played("--settle", "-", given=lines)
+        found = self.played("--converge", "-", given=lines)
         told = {"sender": "1.0.0.1", "receiver": "2.0.0.1", "kind": "update", "prefix": "10.0.0.0/8"}
         self.assertEqual([each["convergence"]["deliveries"] for each in found], [[], [], [], [], [told]])
-        other = self.played("--settle", DISAGREE)[-1]["convergence"]
-        self.assertTrue(other["converged"] and "settles" in other["note"])
+        other = self.played("--converge", DISAGREE)[-1]["convergence"]
+        self.assertTrue(other["converged"] and "converges" in other["note"])
 
     def test_explanations_are_those_of_the_interface(self):
         with Network.load(str(TOP / "examples" / "tour.bgp")) as net:
@@ -181,7 +181,7 @@ class Json(Case):
                                   for each in net.explain(router, prefix)])
 
     def test_what_is_advertised_to_a_peer(self):
-        asked = ("explain", "--settle", "examples/hot-potato.bgp", "5.0.0.1", "203.0.113.0/24", "--to")
+        asked = ("explain", "--converge", "examples/hot-potato.bgp", "5.0.0.1", "203.0.113.0/24", "--to")
         found = self.told(*asked, "7.0.0.1")
         self.assertEqual((found["advertised"], found["peer"]), (None, "7.0.0.1"))
         self.assertIn("it was learned from this peer", found["why_not"])
@@ -200,13 +200,13 @@ class Json(Case):
                 self.assertEqual(kinds - known, set())
 
     def test_stable_states_and_tables(self):
-        found = self.told("settle", DISAGREE, "--states", 6, "--at-end", status=1)
+        found = self.told("converge", DISAGREE, "--states", 6, "--at-end", status=1)
         self.assertEqual(sum(len(state["seeds"]) for state in found["states"]) + len(found["not_converged"]), 6)
-        text = tool("settle", DISAGREE, "--states", 6, "--at-end").stdout
+        text = tool("converge", DISAGREE, "--states", 6, "--at-end").stdout
         self.assertIn("%d stable states in 6 drawn orders" % len(found["states"]), text)
         base = LESSONS / "three-ases.bgp"
-        routes = self.told("settle", base, "--by-prefix", 1, "--jobs", 1)["routes"]
-        lines = tool("settle", base, "--by-prefix", 1, "--jobs", 1).stdout.split("\n")
+        routes = self.told("converge", base, "--by-prefix", 1, "--jobs", 1)["routes"]
+        lines = tool("converge", base, "--by-prefix", 1, "--jobs", 1).stdout.split("\n")
         self.assertEqual([self.held(route) for route in routes], [line for line in lines if " from " in line])
 
     def test_a_sweep(self):
@@ -218,7 +218,7 @@ class Json(Case):
 
     def test_mistakes_stand_beside_the_documents(self):
         for name, words, told in (
-                ("settle", (DISAGREE,), "--json is for --states and --by-prefix"),
+                ("converge", (DISAGREE,), "--json is for --states and --by-prefix"),
                 ("explain", (DISAGREE, "9.9.9.9", "10.0.0.0/8"), "there is no router 9.9.9.9"),
                 ("play", ("nowhere.bgp",), "nowhere.bgp"), ("what-if", (DISAGREE, "nowhere.bgp"), "nowhere.bgp"),
                 ("sweep", (DISAGREE,), "which changes?")):

@@ -94,7 +94,7 @@ class Library(Case):
         self.file("tree/tools/setup", "")
         self.place("tree/toolbox")
         self.file("tree/.venv/bin/python", PYTHON).chmod(0o755)
-        for name in sorted({"play", "settle", "what-if", "draw"} - set(interpreter.TOOLS)):
+        for name in sorted({"play", "converge", "what-if", "draw"} - set(interpreter.TOOLS)):
             self.assertTrue(self.launched(name).stdout.startswith(b"usage: %s " % name.encode()), name)
 
     def test_a_tool_that_finds_its_library_does_not(self):
@@ -190,7 +190,7 @@ class Library(Case):
     def test_what_reads_files_and_prints_text_needs_python_alone(self):
         """Each answers as with the libraries, by a Python that has none."""
         lesson, change = TOOLBOX / "lessons/three-ases.bgp", self.file("change", "fail 1.0.0.1 2.0.0.1\n")
-        for name, *words in (("settle", lesson), ("what-if", lesson, change), ("draw", lesson),
+        for name, *words in (("converge", lesson), ("what-if", lesson, change), ("draw", lesson),
                              ("explain", lesson, "1.0.0.1", "203.0.113.0/24"), ("sweep", lesson, "--fail-links"),
                              ("from-graph", DATA / "graph/abilene.gml"), ("from-mrt", TOOLBOX / "lessons/rib.mrt"),
                              ("from-graph", DATA / "graph/europe.graphml"), ("from-bird", DATA / "bird/ring"),

@@ -32,9 +32,9 @@ from bgptools.program.process import Program
 inner, here, count = Program(), pathlib.Path(%r), 0
 for line in sys.stdin.buffer:
     line = line.decode("latin-1")[:-1]
-    reply = inner.say(line)
-    count += reply[:1] != [] and reply[0].startswith("took ")
-    if count == %d and not here.exists():
+    reply = inner.request(line)
+    count += sum(each.startswith("took ") for each in reply)
+    if count >= %d and not here.exists():
         here.write_text("%%d %%d" %% (os.getsid(0), os.getsid(os.getppid())))
         %s
     print("".join(each + "\\n" for each in reply), end="", flush=True)
@@ -126,12 +126,12 @@ class Scripts(Case):
                              ("1 syntax", "`comm=5,5`: 5 after 5, where communities ascend and each stands once")):
             self.assertIn("        refused %s\n        -- %s\n" % (number, text), told)
 
-    def test_settle(self):
-        told = tool("play", "--settle", "-", given=b"router 1.0.0.1 1\nrouter 2.0.0.1 2\nlink 1.0.0.1 2.0.0.1 1\njoin 1.0.0.1 2.0.0.1\norigin 1.0.0.1 10.0.0.0/8\nquiet\n")
+    def test_converge(self):
+        told = tool("play", "--converge", "-", given=b"router 1.0.0.1 1\nrouter 2.0.0.1 2\nlink 1.0.0.1 2.0.0.1 1\njoin 1.0.0.1 2.0.0.1\norigin 1.0.0.1 10.0.0.0/8\nquiet\n")
         self.assertIn("        deliver 1.0.0.1 2.0.0.1: took 10.0.0.0/8 update\n   6  quiet\n        yes\n", told.stdout)
 
-    def test_a_settle_that_does_not_end_shows_its_last_deliveries(self):
-        told = tool("play", "--settle", "--most", "300", OSCILLATION, status=1).stdout
+    def test_a_converge_that_does_not_end_shows_its_last_deliveries(self):
+        told = tool("play", "--converge", "--most", "300", OSCILLATION, status=1).stdout
         end = told[:told.index("-- in the fair order the same state comes back")].split("\n")[:-1]
         self.assertRegex(end[-21], "^        [0-9]+ deliveries, and then$")
         self.assertTrue(all(line.startswith("        deliver ") for line in end[-20:]))
@@ -240,11 +240,11 @@ class Prompt(AtPrompt):
         self.assertIn("  feed V R update P PATH ORIGIN MED [comm=C,..] ", self.typed.type("? feed\n"))
         self.assertIn("  med A as|always  ", self.typed.type("? med\n"))
 
-    def test_settle_undo_and_save(self):
+    def test_converge_undo_and_save(self):
         self.network()
-        self.assertIn("quiet after 1 delivery", self.typed.type("settle\n"))
+        self.assertIn("quiet after 1 delivery", self.typed.type("converge\n"))
         self.typed.type("noorigin 1.0.0.1 10.0.0.0/8\n")
-        self.assertIn("quiet after 1", self.typed.type("settle\n"))
+        self.assertIn("quiet after 1", self.typed.type("converge\n"))
         self.assertIn("none", self.typed.type("best 2.0.0.1 10.0.0.0/8\n"))
         self.assertIn("undone: noorigin", self.typed.type("undo\n"))
         self.assertIn("from 1.0.0.1 path=1", self.typed.type("best 2.0.0.1 10.0.0.0/8\n"))
@@ -272,7 +272,7 @@ class Prompt(AtPrompt):
 class Words(AtPrompt):
     def test_all_are_listed(self):
         listed = self.typed.type("?\n")
-        for word in ("next", "settle", "undo", "name A N", "load FILE", "explain R P", "draw FILE", "what-if FILE", "save FILE", "quit"):
+        for word in ("next", "converge", "undo", "name A N", "load FILE", "explain R P", "draw FILE", "what-if FILE", "save FILE", "quit"):
             with self.subTest(word=word):
                 self.assertIn("\n  %s " % word, listed)
                 self.assertIn("  %s " % word, self.typed.type("? %s\n" % word.split(" ")[0]))
@@ -310,7 +310,7 @@ class Words(AtPrompt):
         self.network()
         self.file("more.change", "origin 2.0.0.1 20.0.0.0/8\n")
         self.assertIn("10.0.0.0/8 at 2.0.0.1: no route", self.typed.type("explain 2.0.0.1 10.0.0.0/8\n"))
-        self.typed.type("settle\n")
+        self.typed.type("converge\n")
         self.assertRegex(self.typed.type("explain 2.0.0.1 10.0.0.0/8\n"), r"10\.0\.0\.0/8 at 2\.0\.0\.1: 1 route\n +from 1\.0\.0\.1 +chosen")
         self.assertIn("    drawn in net.dot", self.typed.type("draw net.dot --prefix 10.0.0.0/8\n"))
         self.assertIn("from 1.0.0.1\\npath 1", (self.folder / "net.dot").read_text())
@@ -336,12 +336,12 @@ class Words(AtPrompt):
         self.assertIn("  %s\n" % kept, told)
         self.assertIn("    ok\n", self.typed.type("rule 9.0.0.1 8.0.0.1 in comm 5\tdeny\n"))
 
-    def test_settle_that_does_not_end(self):
+    def test_converge_that_does_not_end(self):
         typed = self.start("--most", "300")
         lines = itertools.takewhile(lambda line: not line.startswith("rule"), OSCILLATION.open())
         self.file("endless.bgp", "".join(line for line in lines if not line.startswith("deliver")))
         typed.type("load endless.bgp\n")
-        told = typed.type("settle\n")
+        told = typed.type("converge\n")
         self.assertEqual(told.count("    deliver "), 20)
         self.assertRegex(told, r"    [0-9]+ deliveries, and then\n")
         self.assertRegex(told, r"-- in the fair order the same state comes back every [0-9]+ deliveries; 203\.0\.113\.0/24 keeps changing")
@@ -350,7 +350,7 @@ class Words(AtPrompt):
         self.network()
         self.typed.type("name 1.0.0.1 y1\n")
         self.assertIn("10.0.0.0/8 from self path=- origin=igp next=y1 (1.0.0.1) med=-", self.typed.type("routes y1\n"))
-        self.assertIn("    deliver y1 (1.0.0.1) 2.0.0.1: took", self.typed.type("settle\n"))
+        self.assertIn("    deliver y1 (1.0.0.1) 2.0.0.1: took", self.typed.type("converge\n"))
         self.assertIn("-- y1 (1.0.0.1) and 2.0.0.1 have a session already", self.typed.type("join  y1 2.0.0.1\n"))
         self.typed.type("# name 2.0.0.1 hamburg\n")
         self.assertIn("    10.0.0.0/8 from y1 (1.0.0.1) path=1", self.typed.type("best ham\t10\t\n"))
@@ -400,10 +400,10 @@ class Stops(AtPrompt):
         self.assertIn("    undone: fail 1.0.0.1 2.0.0.1\n", typed.type("undo\n"))
         self.assertIn("    1 via 2.0.0.1\n", typed.type("cost 1.0.0.1 2.0.0.1\n"))
 
-    def test_ctrl_c_ends_a_settle_and_not_the_network(self):
+    def test_ctrl_c_ends_a_converge_and_not_the_network(self):
         typed = self.start(PROGRAM=self.between(2, "while not here.with_name('go').exists(): time.sleep(0.01)"))
         self.chain(typed)
-        self.stop(typed, "settle")
+        self.stop(typed, "converge")
         own, of_play = self.here.read_text().split(" ")
         self.assertNotEqual(own, of_play)
         self.file("go", "")
@@ -413,7 +413,7 @@ class Stops(AtPrompt):
         self.assertNotIn("made anew", told)
         with_route = [n for n in range(1, 6) if "path=" in typed.type("best %d.0.0.1 10.0.0.0/8\n" % n)]
         self.assertEqual(with_route, list(range(5 - kept, 6)))
-        self.assertRegex(typed.type("settle\n"), "    quiet after %d deliver" % (4 - kept))
+        self.assertRegex(typed.type("converge\n"), "    quiet after %d deliver" % (4 - kept))
         typed.type("save out.bgp\n")
         self.assertIn("from 2.0.0.1 path=2,3,4,5 ", program((self.folder / "out.bgp").read_text() + "best 1.0.0.1 10.0.0.0/8\n")[-1])
         typed.end()
@@ -421,13 +421,13 @@ class Stops(AtPrompt):
     def test_a_second_ctrl_c_does_not_wait_for_the_reply(self):
         typed = self.start(PROGRAM=self.between(2, "time.sleep(600)"))
         self.chain(typed)
-        self.stop(typed, "settle")
+        self.stop(typed, "converge")
         told = typed.type(b"\x03")
-        self.assertIn("    -- stopped; done until then, and kept: 1\n    -- the network is made anew from what was accepted\n", told)
-        self.assertIn("    none\n", typed.type("best 3.0.0.1 10.0.0.0/8\n"))
-        self.assertIn("    took 10.0.0.0/8 update\n", typed.type("deliver 4.0.0.1 3.0.0.1\n"))
+        self.assertIn("    -- stopped\n    -- the network is made anew from what was accepted\n", told)
+        self.assertIn("    none\n", typed.type("best 4.0.0.1 10.0.0.0/8\n"))
+        self.assertIn("    took 10.0.0.0/8 update\n", typed.type("deliver 5.0.0.1 4.0.0.1\n"))
         self.assertIn("    1 via 2.0.0.1\n", typed.type("cost 1.0.0.1 2.0.0.1\n"))
-        self.assertIn("    quiet after 2 deliveries\n", typed.type("settle\n"))
+        self.assertIn("    quiet after 3 deliveries\n", typed.type("converge\n"))
 
     def test_ctrl_c_ends_a_what_if(self):
         typed = self.start()
@@ -450,8 +450,8 @@ class Stops(AtPrompt):
             with self.subTest(how=how):
                 typed = self.start(PROGRAM=self.between(2, does))
                 self.chain(typed)
-                self.assertIn("between: the program ended before it had answered, %s\n" % how, typed.type("settle\n"))
-                self.assertIn("    quiet after 3 deliveries\n", typed.type("settle\n"))
+                self.assertIn("between: the program ended before it had answered, %s\n" % how, typed.type("converge\n"))
+                self.assertIn("    quiet after 4 deliveries\n", typed.type("converge\n"))
                 self.here.unlink()
 
 
@@ -468,7 +468,7 @@ class Restored(AtPrompt):
 
     def test_the_work_of_a_prompt_that_was_killed(self):
         self.network()
-        self.typed.type("settle\n")
+        self.typed.type("converge\n")
         self.typed.type("name 2.0.0.1 y2\n")
         self.typed.type("noorigin 1.0.0.1 10.0.0.0/8\n")
         self.typed.type("undo\n")

@@ -18,7 +18,7 @@ from bgptools.program.process import Program
 
 SCRIPT = "examples/hijack.bgp"
 CALLS = {
-    "play": [SCRIPT], "settle": [SCRIPT], "draw": [SCRIPT], "explain": [SCRIPT, "2.0.0.1", "198.51.100.0/24"],
+    "play": [SCRIPT], "converge": [SCRIPT], "draw": [SCRIPT], "explain": [SCRIPT, "2.0.0.1", "198.51.100.0/24"],
     "what-if": ["toolbox/lessons/drained-link.bgp", "toolbox/lessons/drained-link.change"], "from-frr": ["toolbox/lessons/frr"],
     "from-as-rel": ["toolbox/lessons/relationships.txt"], "from-rib": ["toolbox/lessons/rib.txt"],
     "from-cbgp": ["toolbox/lessons/two-ases.cli"], "from-graph": ["toolbox/lessons/ring.gml"],
@@ -36,7 +36,7 @@ def shell(text, given=b""):
 class Streams(Case):
     def each(self):
         """A call of each tool that writes, and one for help."""
-        return ["$0 toolbox/" + " ".join([name, *words]) for name, words in [*CALLS.items(), ("settle", ["--help"])]]
+        return ["$0 toolbox/" + " ".join([name, *words]) for name, words in [*CALLS.items(), ("converge", ["--help"])]]
 
     def test_a_full_standard_output(self):
         tools = sorted(TOOLS)
@@ -67,16 +67,16 @@ class Streams(Case):
                 self.assertEqual(shell("$0 toolbox/play none.bgp " + closed), (2, "", ""))
                 self.assertEqual(shell("$0 toolbox/play --odd " + closed), (2, "", ""))
                 self.assertEqual(shell("$0 toolbox/play %s %s" % (SCRIPT, closed))[:2], shell("$0 toolbox/play " + SCRIPT)[:2])
-                self.assertEqual(shell("$0 toolbox/settle - " + closed, b"quiet\n# odd\n")[1], "quiet\n# odd\n")
+                self.assertEqual(shell("$0 toolbox/converge - " + closed, b"quiet\n# odd\n")[1], "quiet\n# odd\n")
                 self.assertEqual(shell("$0 toolbox/play %s >/dev/full %s" % (SCRIPT, closed))[0], 4)
 
     def test_a_closed_standard_input(self):
-        self.assertEqual(shell("$0 toolbox/settle - <&-"), (2, "", "standard input: it cannot be read: Bad file descriptor\n"))
+        self.assertEqual(shell("$0 toolbox/converge - <&-"), (2, "", "standard input: it cannot be read: Bad file descriptor\n"))
 
     def test_nothing_is_written_to_a_standard_output_that_is_closed(self):
         for closed in (">&-", "<&- >&- 2>&-"):
             with self.subTest(closed=closed):
-                self.assertEqual(shell("$0 toolbox/settle toolbox/lessons/three-ases.bgp -o %s/out %s" % (self.folder, closed)), (0, "", ""))
+                self.assertEqual(shell("$0 toolbox/converge toolbox/lessons/three-ases.bgp -o %s/out %s" % (self.folder, closed)), (0, "", ""))
                 self.assertIn("deliver", (self.folder / "out").read_text())
                 (self.folder / "out").unlink()
 
@@ -96,12 +96,12 @@ class Escapes(Case):
         self.assertIn("      # été \\x1b]0;title\\x07 \\x9b2J \\xff \\u202e\\rx\n   2  \\x1b[2Jquiet\\tx\n        refused 1 syntax\n", told)
 
     def test_refused_lines_and_mistakes(self):
-        for name in ("settle", "draw"):
+        for name in ("converge", "draw"):
             told = tool(name, "-", given=self.MALFORMED)
             self.assertIn("standard input:2: ", told.stderr)
             self.assert_tame(told.stderr)
             self.assertEqual((told.returncode, told.stdout), (2, ""))
-        self.assertEqual(tool("settle", "-", given=self.MARKED).stdout.encode("utf-8", "replace")[:10], self.MALFORMED[:10])
+        self.assertEqual(tool("converge", "-", given=self.MARKED).stdout.encode("utf-8", "replace")[:10], self.MALFORMED[:10])
         self.assert_tame(tool("play", "no\x1b[2J.bgp", status=2).stderr)
         self.assertIn("no\\x1b[2J.bgp: it cannot be read", tool("play", "no\x1b[2J.bgp", status=2).stderr)
         self.assert_tame(tool("play", "--\x1b[2J", status=2).stderr)
@@ -111,7 +111,7 @@ class Escapes(Case):
         self.addCleanup(os.close, main)
         path = self.folder / "malformed.bgp"
         path.write_bytes(self.MARKED)
-        subprocess.run([sys.executable, "-B", str(TOOLBOX / "settle"), str(path)], stdout=side, stderr=subprocess.DEVNULL, timeout=PATIENCE)
+        subprocess.run([sys.executable, "-B", str(TOOLBOX / "converge"), str(path)], stdout=side, stderr=subprocess.DEVNULL, timeout=PATIENCE)
         os.close(side)
         told = os.read(main, 4096).decode().replace("\r\n", "\n")
         self.assertIn("# été \\x1b]0;title\\x07 \\x9b2J", told)

@@ -1,4 +1,4 @@
-"""settle --by-prefix and sweep --by-prefix: the parts of a network together tell what the whole tells."""
+"""converge --by-prefix and sweep --by-prefix: the parts of a network together tell what the whole tells."""
 import itertools
 import json
 import re
@@ -15,9 +15,9 @@ class ByPrefix(Case):
         ties = self.file("relations", "\n".join(relations(16, 3)) + "\n")
         return self.file("network", inside("from-as-rel", ties, "--origins", "all").stdout)
 
-    def test_settled_tables(self):
+    def test_converged_tables(self):
         for base in (self.network(), MANY, self.file("base", BASE), THREE):
-            whole = inside("settle", "--at-end", base).stdout
+            whole = inside("converge", "--at-end", base).stdout
             routers = sorted(re.findall("^router ([0-9.]+)", whole, re.M), key=by_address)
             asked = "".join("routes %s\n" % router for router in routers)
             count = sum(bool(line) and line[0] != "#" for line in whole.split("\n"))
@@ -25,7 +25,7 @@ class ByPrefix(Case):
             wanted = "".join("routes %s\n%s" % (router, "".join(line + "\n" for line in itertools.takewhile(
                 lambda line: not line.startswith("end "), replies))) for router in routers)
             for number in (1, 5, 1000):
-                told = inside("settle", "--by-prefix", number, "--jobs", 2, base)
+                told = inside("converge", "--by-prefix", number, "--jobs", 2, base)
                 self.assertEqual((told.returncode, re.sub("end .*\n", "", told.stdout), told.stderr), (0, wanted, ""))
                 ends = [block.count("\n") - 1 for block in re.split("(?<=\n)(?=routes)", wanted)]
                 self.assertEqual([int(text) for text in re.findall("end (.*)\n", told.stdout)], ends)
@@ -54,10 +54,10 @@ class ByPrefix(Case):
         self.assertEqual(one, parts)
 
     def test_mistakes(self):
-        told = inside("settle", "--by-prefix", 2, TOP / "examples" / "hijack.bgp")
+        told = inside("converge", "--by-prefix", 2, TOP / "examples" / "hijack.bgp")
         self.assertRegex(told.stderr, r"hijack.bgp:\d+: `deliver .*`: in a script with deliveries of its own")
         one = ("--by-prefix", 1)
         for words in ((*one, "--states", 2), ("--jobs", 2), ("--by-prefix", 0), (*one, "--jobs", 0)):
-            self.assertEqual(inside("settle", *words, THREE).returncode, 2)
-        told = inside("settle", "--by-prefix", 1, TOP / "examples/lessons/med-oscillation.bgp")
+            self.assertEqual(inside("converge", *words, THREE).returncode, 2)
+        told = inside("converge", "--by-prefix", 1, TOP / "examples/lessons/med-oscillation.bgp")
         self.assertEqual((told.returncode, told.stdout), (2, ""))

@@ -72,10 +72,10 @@ class Networks(Case):
                 self.assert_as_file(made.stderr.replace(str(NETWORKS) + "/", ""), NETWORKS / (name + ".told"))
                 self.assertEqual(made.returncode, 1)
 
-    def test_each_settles(self):
+    def test_each_converges(self):
         for name in NAMES:
-            settled = tool("settle", "--at-end", NETWORKS / (name + ".bgp"), status=0).stdout
-            replies = program(settled + "quiet\n")
+            converged = tool("converge", "--at-end", NETWORKS / (name + ".bgp"), status=0).stdout
+            replies = program(converged + "quiet\n")
             self.assertEqual((replies[-1], [each for each in replies if each.startswith("refused")]), ("yes", []))
 
     def test_strict(self):

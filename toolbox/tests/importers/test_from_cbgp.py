@@ -37,7 +37,7 @@ join 1.0.0.1 1.0.0.2
 join 1.0.0.1 2.0.0.1
 self 1.0.0.1 1.0.0.2 on
 """
-RUN = "# sim run: here C-BGP delivers all that waits, and `settle` does\n"
+RUN = "# sim run: here C-BGP delivers all that waits, and `converge` does\n"
 RAISED = "# Preferences are C-BGP's and %d: a route to which nothing gives one has %d there, and 100 here.\n"
 
 
@@ -81,11 +81,11 @@ class Scripts(Case):
                 self.assertEqual(made.stdout, (SCRIPTS / (name + ".expected")).read_text())
                 self.assertEqual(made.stderr, (SCRIPTS / (name + ".told")).read_text())
 
-    def test_what_they_settle_in(self):
+    def test_what_they_converge_in(self):
         for name in ("transit", "reflectors", "policies"):
-            settled = tool("settle", "toolbox/tests/data/cbgp/%s.expected" % name, status=0).stdout
+            converged = tool("converge", "toolbox/tests/data/cbgp/%s.expected" % name, status=0).stdout
             wanted = [line.split(" ", 2) for line in (SCRIPTS / (name + ".routes")).read_text().split("\n")[:-1]]
-            replies = program(settled + "".join("best %s %s\n" % (router, prefix) for router, prefix, _ in wanted))
+            replies = program(converged + "".join("best %s %s\n" % (router, prefix) for router, prefix, _ in wanted))
             with self.subTest(name=name):
                 self.assertNotIn("refused", "".join(replies))
                 self.assertEqual(replies[-len(wanted):], [" ".join(each[1:]) for each in wanted])

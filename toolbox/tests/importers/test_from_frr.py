@@ -62,7 +62,7 @@ class FromFrr(Case):
         net, folder = real.model.Net(), self.folder / name
         for line in lines:
             real.model.answer(net, line)
-        deliveries = real.settle(net)
+        deliveries = real.converge(net)
         for each in real.routers(net):
             self.file("%s/%s.conf" % (name, real.show(each)), interfaces(real, net, each) + real.configuration(net, each))
         made = tool("from-frr", folder)
@@ -73,10 +73,10 @@ class FromFrr(Case):
                          self.tables(real, net, lines + deliveries))
 
     def tables(self, real, net, lines):
-        """The chosen routes of all routers after these lines, settled."""
-        settled = tool("settle", "--at-end", self.file("now.bgp", "\n".join(lines) + "\n"), status=0).stdout
+        """The chosen routes of all routers after these lines, converged."""
+        converged = tool("converge", "--at-end", self.file("now.bgp", "\n".join(lines) + "\n"), status=0).stdout
         questions = ["routes %s" % real.show(router) for router in real.routers(net)]
-        replies = program(settled + "quiet\n" + "\n".join(questions) + "\n")
+        replies = program(converged + "quiet\n" + "\n".join(questions) + "\n")
         return replies[len(replies) - replies[::-1].index("yes"):]
 
     def test_mistakes(self):

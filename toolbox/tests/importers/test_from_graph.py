@@ -44,11 +44,11 @@ class Graphs(Case):
                 self.assertEqual(made.stdout, (GRAPHS / (name + ".expected")).read_text())
                 self.assertEqual(made.stderr, (GRAPHS / (name + ".told")).read_text())
 
-    def test_what_they_settle_in(self):
+    def test_what_they_converge_in(self):
         for name in CALLS:
-            settled = tool("settle", "toolbox/tests/data/graph/%s.expected" % name, status=0).stdout
+            converged = tool("converge", "toolbox/tests/data/graph/%s.expected" % name, status=0).stdout
             wanted = [line.split(" ", 2) for line in (GRAPHS / (name + ".routes")).read_text().split("\n")[:-1]]
-            replies = program(settled + "".join("best %s %s\n" % (router, prefix) for router, prefix, _ in wanted))
+            replies = program(converged + "".join("best %s %s\n" % (router, prefix) for router, prefix, _ in wanted))
             with self.subTest(name=name):
                 self.assertNotIn("refused", "".join(replies))
                 self.assertEqual(replies[-len(wanted):], [" ".join(each[1:]) for each in wanted])

@@ -63,10 +63,10 @@ class Tables(Dumps):
                 self.assertEqual(made.returncode, status)
                 self.assertEqual(set(program(made.stdout)), {"ok"})
 
-    def test_each_settles(self):
+    def test_each_converges(self):
         for name in NAMES:
-            settled = tool("settle", "--at-end", TABLES / (name + ".bgp"), status=0).stdout
-            replies = program(settled + "quiet\n")
+            converged = tool("converge", "--at-end", TABLES / (name + ".bgp"), status=0).stdout
+            replies = program(converged + "quiet\n")
             self.assertEqual((replies[-1], [each for each in replies if each.startswith("refused")]), ("yes", []))
 
     def test_the_same_table_as_text(self):

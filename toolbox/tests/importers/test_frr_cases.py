@@ -28,13 +28,13 @@ def table(lines):
 
 
 class FrrCases(Case):
-    def settled(self, script, feeds):
+    def converged(self, script, feeds):
         """What the routers of a script choose after the feeds, as lines of `expected`."""
         names = dict(line.split()[2:4] for line in script if line.startswith("# name "))
         addresses = {name: address for address, name in names.items()}
         # A route that is told over a session that does not stand goes nowhere.
         said = script + [" ".join(addresses.get(word, word) for word in line.split()) + " # expect refused" for line in feeds]
-        done = inside("settle", "--at-end", self.file("now.bgp", "\n".join(said) + "\n"))
+        done = inside("converge", "--at-end", self.file("now.bgp", "\n".join(said) + "\n"))
         self.assertEqual(done.returncode, 0, done.stderr)
         found = []
         for router in [line.split()[1] for line in script if line.startswith("router ")]:
@@ -68,7 +68,7 @@ class FrrCases(Case):
             self.assertEqual(made.stdout, "")
             return
         wanted = table(line for line in lines_of(place / "expected") if not line.endswith(" none"))
-        given = table(self.settled(made.stdout.split("\n"), lines_of(place / "feeds")))
+        given = table(self.converged(made.stdout.split("\n"), lines_of(place / "feeds")))
         excepted = {tuple(line.split()) for line in lines_of(place / "excepted")}
         differing = {key for key in wanted.keys() | given.keys() if wanted.get(key) != given.get(key)}
         wrong = sorted(differing - excepted)

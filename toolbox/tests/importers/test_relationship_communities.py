@@ -44,7 +44,7 @@ def without_communities(line):
 
 
 class BothScripts(Case):
-    """One file as two scripts: the deliveries that settle the one are given to the other, word for word."""
+    """One file as two scripts: the deliveries that converge the one are given to the other, word for word."""
 
     def setUp(self):
         super().setUp()
@@ -61,14 +61,14 @@ class BothScripts(Case):
         words = [line.split(" ") for line in self.plain if line.startswith("router ")]
         self.routers = {int(asn): router for _, router, asn in words}
 
-    def settled(self, *changes):
+    def converged(self, *changes):
         """What the first script and the changes want after its own lines until it is quiet: deliveries and changes."""
         with Run() as run:
             run.play(lines_of("\n".join(self.plain).encode(), "the script"))
-            self.assertTrue(run.settle().is_settled)
+            self.assertTrue(run.converge().is_converged)
             for change in changes:
                 self.assertEqual(run.say(change), ["ok"])
-                self.assertTrue(run.settle().is_settled)
+                self.assertTrue(run.converge().is_converged)
             return run.lines[len(self.plain):]
 
     def assert_same(self, later):
@@ -101,7 +101,7 @@ class BothScripts(Case):
         for seed in range(6):
             with self.subTest(seed=seed):
                 self.make(seed)
-                _, marked = self.assert_same(self.settled())
+                _, marked = self.assert_same(self.converged())
                 self.assertEqual({len(lines) for lines in marked.values()}, {18})
                 self.assert_marks(marked)
 
@@ -118,10 +118,10 @@ class BothScripts(Case):
         moved = 0
         for seed in range(4):
             self.make(seed)
-            quiet, _ = self.assert_same(self.settled())
+            quiet, _ = self.assert_same(self.converged())
             for clears in list(self.leakers())[:3]:
                 with self.subTest(seed=seed, clears=clears):
-                    leaked, marked = self.assert_same(self.settled(*clears))
+                    leaked, marked = self.assert_same(self.converged(*clears))
                     self.assert_marks(marked)
                     moved += leaked != quiet
         self.assertGreater(moved, 8)
@@ -130,8 +130,8 @@ class BothScripts(Case):
         self.make(9)
         routers = list(self.routers.values())
         prefix = next(line.split(" ")[2] for line in self.plain if line.startswith("origin "))
-        quiet, _ = self.assert_same(self.settled())
-        hijacked, marked = self.assert_same(self.settled("origin %s %s" % (routers[-1], prefix)))
+        quiet, _ = self.assert_same(self.converged())
+        hijacked, marked = self.assert_same(self.converged("origin %s %s" % (routers[-1], prefix)))
         self.assertNotEqual(hijacked, quiet)
         self.assert_marks(marked)
 

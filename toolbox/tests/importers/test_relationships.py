@@ -82,17 +82,17 @@ class Hijacks(Case):
         caught = []
         with Run() as run:
             run.play(read(str(self.script)))
-            self.assertTrue(run.settle().is_settled)
+            self.assertTrue(run.converge().is_converged)
             self.assertEqual(self.paths(run), fixpoint(self.kinds, [self.VICTIM]))
             for attacker in [asn for asn in range(1, 61, 3) if asn != self.VICTIM]:
                 run.say("origin 10.0.%d.1 %s" % (attacker, self.PREFIX))
-                self.assertTrue(run.settle().is_settled)
+                self.assertTrue(run.converge().is_converged)
                 now = self.paths(run)
                 with self.subTest(attacker=attacker):
                     self.assertEqual(now, fixpoint(self.kinds, [self.VICTIM, attacker]))
                 caught.append(sum(path[-1:] == (attacker,) for path in now.values()))
                 run.say("noorigin 10.0.%d.1 %s" % (attacker, self.PREFIX))
-                self.assertTrue(run.settle().is_settled)
+                self.assertTrue(run.converge().is_converged)
         self.assertEqual(len(caught), 19)
         self.assertGreater(sum(count > 0 for count in caught), 15)
 
@@ -130,15 +130,15 @@ class Relationships(Case):
             self.assertEqual(told.returncode, status)
         self.assertEqual((told.stdout, told.stderr), ("", "%s: a script of %d lines; one run of the program reads %d; --core N keeps fewer ASes\n" % (path, lines, lines - 1)))
 
-    def test_a_thousand_ases_settle_without_a_valley(self):
+    def test_a_thousand_ases_converge_without_a_valley(self):
         text = relationships(1000, 3)
         kinds = {tuple(map(int, line.split("|")[:2])): int(line.split("|")[2]) for line in text.split("\n")[1:-1]}
         script = self.folder / "as.bgp"
         tool("from-as-rel", self.file("rel.txt", text), "--origins", "7,500,999", "-o", script, status=0)
-        settled = tool("settle", "--at-end", script, status=0).stdout
-        routers = [line.split(" ") for line in settled.split("\n") if line.startswith("router ")]
+        converged = tool("converge", "--at-end", script, status=0).stdout
+        routers = [line.split(" ") for line in converged.split("\n") if line.startswith("router ")]
         self.assertEqual(len(routers), 1000)
-        replies = program(settled + "quiet\n" + "".join("routes %s\n" % words[1] for words in routers))
+        replies = program(converged + "quiet\n" + "".join("routes %s\n" % words[1] for words in routers))
         self.assertFalse([line for line in replies if line.startswith("refused")])
         asked = replies[replies.index("yes") + 1:]
         tables, rest = {}, iter(asked)

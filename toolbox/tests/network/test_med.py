@@ -72,7 +72,7 @@ class Told(Case):
 
     def explained(self, *more):
         """How the two routes are told, in few words."""
-        told = tool("explain", "--settle", self.script(*more), "9.0.0.1", "10.0.0.0/8", status=0).stdout
+        told = tool("explain", "--converge", self.script(*more), "9.0.0.1", "10.0.0.0/8", status=0).stdout
         return [line.split(None, 2)[2] for line in told.split("\n") if line.startswith("  from")]
 
     def test_explain(self):
@@ -104,11 +104,11 @@ class Told(Case):
     def test_draw(self):
         for setting, text in (("as", "from 1.0.0.1\\npath 1\\nby identifier 1.0.0.1"),
                               ("always", "from 2.0.0.1\\npath 2\\nby MED 0 (missing) over all neighbours")):
-            told = inside("draw", self.script("med 9.0.0.1 " + setting), "--settle", "--prefix", "10.0.0.0/8").stdout
+            told = inside("draw", self.script("med 9.0.0.1 " + setting), "--converge", "--prefix", "10.0.0.0/8").stdout
             self.assertIn('"9.0.0.1" [label="9.0.0.1\\n%s"' % text, told)
 
 
-class Settled(Case):
+class Converged(Case):
     # A reflector and two clients: one with a route of AS 7, which is nearer, one with a route of AS 6, of lower MED.
     REFLECTED = """router 5.0.0.1 5
 router 5.0.0.2 5
@@ -134,7 +134,7 @@ feed 6.0.0.1 5.0.0.3 update 10.0.0.0/8 6,70 igp 10
         and then the reflector has no other; else the reflector takes the nearer one, and tells it nothing."""
         for where, states in (([], 1), (["5.0.0.2"], 2), (["5.0.0.1", "5.0.0.2", "5.0.0.3"], 1)):
             script = self.file("net.bgp", self.REFLECTED + "".join("med %s always\n" % router for router in where))
-            told = tool("settle", "--at-end", "--states", "8", script).stdout
+            told = tool("converge", "--at-end", "--states", "8", script).stdout
             self.assertTrue(told.startswith("%d stable state%s in 8 " % (states, "s" if states > 1 else "")), told)
 
     def test_two_lines_end_the_oscillation(self):
@@ -143,7 +143,7 @@ feed 6.0.0.1 5.0.0.3 update 10.0.0.0/8 6,70 igp 10
         self.assertEqual(text.count(after), 1)
         for more in ("med 1.0.0.1 always\nmed 1.0.0.4 always\n", "med 1.0.0.1 always\n", "med 1.0.0.4 always\n"):
             for words in ((), ("--router",), ("--seed", "3")):
-                made = tool("settle", "-", *words, given=text.replace(after, after + more).encode(), status=0).stdout
+                made = tool("converge", "-", *words, given=text.replace(after, after + more).encode(), status=0).stdout
                 self.assertEqual(program(made + "quiet\n")[-1], "yes")
         elsewhere = after + "med 1.0.0.1 as\nmed 1.0.0.3 always\n"
-        tool("settle", "-", given=text.replace(after, elsewhere).encode(), status=1)
+        tool("converge", "-", given=text.replace(after, elsewhere).encode(), status=1)

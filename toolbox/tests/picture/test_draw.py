@@ -98,7 +98,7 @@ class Drawn(Case):
 
     def test_routes_and_a_trace(self):
         way = ("--trace", "5.0.0.1", "198.51.100.1")
-        told = inside("draw", RING, "--settle", "--prefix", "198.51.100.0/24", *way).stdout
+        told = inside("draw", RING, "--converge", "--prefix", "198.51.100.0/24", *way).stdout
         self.assertIn('label="5.0.0.1\\nfrom 5.0.0.3\\npath 7"', told)
         lost = inside("draw", "examples/lessons/leaking-policy.bgp", "--prefix", "203.0.113.0/24").stdout
         self.assertIn('label="8.0.0.1\\ntold path 5,5"', lost)
@@ -128,10 +128,10 @@ class Drawn(Case):
         lines = (TOOLBOX / "lessons" / "customers.bgp").read_text()
         lines += "feed 7.0.0.1 5.0.0.1 update 203.0.113.0/24 7 igp - comm=1,2,4294967041\n"
         script = self.file("customers.bgp", lines)
-        told = inside("draw", script, "--settle", "--prefix", "198.51.100.0/24").stdout
+        told = inside("draw", script, "--converge", "--prefix", "198.51.100.0/24").stdout
         self.assertIn('"5.0.0.1" [label="west\\n5.0.0.1\\nfrom customer\\npath 7\\ncomms 327681 (5:1)"', told)
         self.assertIn('"8.0.0.1" [label="peer\\n8.0.0.1\\ntold path 5,7\\ncomms 327681 (5:1)"', told)
-        told = inside("draw", script, "--settle", "--prefix", "203.0.113.0/24").stdout
+        told = inside("draw", script, "--converge", "--prefix", "203.0.113.0/24").stdout
         self.assertIn('\\nfrom west\\npath 7\\ncomms 1,2 (0:1 0:2) and 2 more\\nNO_EXPORT: told to no other AS"', told)
         self.assertIn('"8.0.0.1" [label="peer\\n8.0.0.1"', told)
 
@@ -139,7 +139,7 @@ class Drawn(Case):
         script = self.file("waiting.bgp", TWO + "origin 2.0.0.1 10.1.0.0/16\norigin 2.0.0.1 10.2.0.0/16\norigin 1.0.0.1 10.3.0.0/16\n")
         told = inside("draw", script).stdout
         self.assertRegex(told, r'"1\.0\.0\.1" -- "2\.0\.0\.1" \[.*taillabel="\(1\)", headlabel="\(2\)"')
-        self.assertNotIn("label=\"(", inside("draw", script, "--settle").stdout.replace("legend", ""))
+        self.assertNotIn("label=\"(", inside("draw", script, "--converge").stdout.replace("legend", ""))
 
     def test_names(self):
         script = self.file("names.bgp", "# name 1.0.0.1 west\n# name 2.0.0.1 east\n" + TWO + "origin 2.0.0.1 10.1.0.0/16\ndeliver 2.0.0.1 1.0.0.1\n")
@@ -237,7 +237,7 @@ class Placed(Case):
     def test_formats(self):
         for ending, begin in (("svg", b"<svg"), ("png", b"\x89PNG"), ("pdf", b"%PDF"), ("dot", b"graph")):
             out = self.folder / ("ring." + ending)
-            tool("draw", RING, "--settle", "-o", out, status=0)
+            tool("draw", RING, "--converge", "-o", out, status=0)
             self.assertTrue(out.read_bytes().startswith(begin))
 
     def test_a_large_picture_has_all_formats(self):
@@ -253,7 +253,7 @@ class Placed(Case):
         return out.read_text()
 
     def test_forty_routers_are_readable_on_one_slide(self):
-        svg = self.svg(self.file("forty.bgp", forty()), "--settle", "--prefix", "198.51.100.0/24")
+        svg = self.svg(self.file("forty.bgp", forty()), "--converge", "--prefix", "198.51.100.0/24")
         width, height = map(float, re.search(r'viewBox="0 0 ([0-9.]+) ([0-9.]+)"', svg).groups())
         found = list(spots(svg).values())
         self.assertEqual(len(found), 40)
@@ -369,15 +369,15 @@ class Steps(Case):
         self.assertEqual([(step["named"], step["says"]) for step in steps],
                          [("router west 1", ""), ("origin west 10.0.0.0/8", "")])
 
-    def test_what_does_not_settle(self):
+    def test_what_does_not_converge(self):
         """It is told with its line, the last deliveries are shown, and later lines are not followed by more."""
         script = TOOLBOX.parent / "examples" / "lessons" / "med-oscillation.bgp"
-        told = inside("draw", script, "--steps", "--settle")
+        told = inside("draw", script, "--steps", "--converge")
         self.assertEqual(told.returncode, 1)
         self.assertRegex(told.stderr, r"med-oscillation\.bgp: line [0-9]+: in the fair order the same state comes back every [0-9]+ deliveries; "
-                                      r"203\.0\.113\.0/24 keeps changing at [^;]*; of 9 other orders \([^)]*\) none settles\n")
+                                      r"203\.0\.113\.0/24 keeps changing at [^;]*; of 9 other orders \([^)]*\) none converges\n")
         counts = [sum(line.startswith("deliver ") for line in step["replies"]) for step in const(told.stdout, "steps")]
-        endless = next(at for at, step in enumerate(const(told.stdout, "steps")) if "none settles" in step["replies"][-1])
+        endless = next(at for at, step in enumerate(const(told.stdout, "steps")) if "none converges" in step["replies"][-1])
         self.assertEqual((counts[endless], max(counts[endless + 1:])), (20, 0))
 
     def test_letters_and_odd_bytes(self):
@@ -400,7 +400,7 @@ class Steps(Case):
             fake = self.file("bin/" + name, text)
             fake.chmod(fake.stat().st_mode | stat.S_IXUSR)
         base = self.file("forty.bgp", forty(["origin 10.0.3.5 203.0.113.0/24", "origin 10.0.2.6 192.0.2.0/24"]))
-        script = inside("settle", "--at-end", base).stdout
+        script = inside("converge", "--at-end", base).stdout
         start = script.index("# step What")
         steps = [at for at, line in enumerate(script[start:].split("\n")) if line and line[0] != "#"]
         script = "\n".join(script.split("\n")[:script[:start].count("\n") + steps[99] + 1]) + "\n"

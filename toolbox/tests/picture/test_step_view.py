@@ -19,7 +19,7 @@ def accepted(path):
     with Run() as run:
         for line in read(str(path)):
             run.say(line.text)
-            for way in run.settler.suspects[:2]:
+            for way in run.deliverer.suspects[:2]:
                 run.say("deliver %s %s" % way)
         return list(run.lines), sorted(run.network.prefixes), run.network.routers()
 

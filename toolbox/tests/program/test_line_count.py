@@ -37,11 +37,11 @@ class Counted(Case):
             self.assertEqual(run.lines, lines)
             self.assertEqual(run.program.count_of_all - run.program.count > 100, True)
 
-    def test_settle_writes_the_same_where_its_questions_are_too_many(self):
+    def test_converge_writes_the_same_where_its_questions_are_too_many(self):
         for words in ((), ("--at-end",)):
-            wanted = inside("settle", RING, *words)
+            wanted = inside("converge", RING, *words)
             with most(wanted.stdout.count("\n")):
-                told = inside("settle", RING, *words)
+                told = inside("converge", RING, *words)
             self.assertEqual((told.returncode, told.stdout), (0, wanted.stdout))
 
     def test_what_if_tells_the_same(self):
@@ -54,12 +54,12 @@ class Counted(Case):
         script = self.file("ring.bgp", RING.read_text() + "# the end\n" * 20)
         given, out = script.read_text().count("\n"), self.file("out.bgp", "kept\n")
         for words, at in (((), given - 20), (("--at-end",), given)):
-            with self.subTest(words=words), most(inside("settle", script, *words).stdout.count("\n") - 1):
-                told = inside("settle", script, *words, "-o", out)
+            with self.subTest(words=words), most(inside("converge", script, *words).stdout.count("\n") - 1):
+                told = inside("converge", script, *words, "-o", out)
                 self.assertEqual(told.returncode, 2)
                 self.assertIn("with the deliveries up to line %d" % at, told.stderr)
         with most(given + 5):
-            told = inside("settle", script, "--at-end", "-o", out)
+            told = inside("converge", script, "--at-end", "-o", out)
         self.assertEqual(told.returncode, 2)
         self.assertIn("with its deliveries the script has %d lines and more, and one run of the program reads no more" % (given + 5), told.stderr)
         self.assertEqual(out.read_text(), "kept\n")
@@ -93,7 +93,7 @@ class Counted(Case):
 
     def test_a_script_that_is_too_long_is_told_at_once(self):
         given = RING.read_text().count("\n")
-        for words in (("settle", RING), ("explain", RING, "1.0.0.1", "10.1.0.0/16"), ("draw", RING), ("what-if", RING, RING)):
+        for words in (("converge", RING), ("explain", RING, "1.0.0.1", "10.1.0.0/16"), ("draw", RING), ("what-if", RING, RING)):
             with self.subTest(words=words), most(given - 1):
                 told = inside(*words)
                 self.assertEqual((told.returncode, told.stdout), (2, ""))

@@ -212,7 +212,7 @@ class Tools(Case):
 
     def test_without_a_program(self):
         with unittest.mock.patch.dict(os.environ, {"PROGRAM": str(self.folder / "none")}):
-            told = tool("settle", "--version", status=2)
+            told = tool("converge", "--version", status=2)
         self.assertIn("none: the program cannot be run: No such file", told.stderr)
 
 

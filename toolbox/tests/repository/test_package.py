@@ -46,20 +46,20 @@ class Names(Case):
                 self.assertRegex(told.stdout.decode(), r"(?m)^  %s +[A-Z].{20,}\.$" % name)
 
     def test_a_tool_by_its_name(self):
-        told = alone([sys.executable, "-B", "-m", "bgptools", "settle", "-"], TOOLBOX, SCRIPT, PROGRAM=location.program())
+        told = alone([sys.executable, "-B", "-m", "bgptools", "converge", "-"], TOOLBOX, SCRIPT, PROGRAM=location.program())
         self.assertEqual((told.returncode, told.stdout, told.stderr), (0, SCRIPT + DELIVERY, b""))
 
     def test_a_tool_is_called_as_it_was_launched(self):
-        (self.folder / "bgpsim-settle").symlink_to(TOOLBOX / "launch")
-        for words, name in (([TOOLBOX / "settle"], "settle"), ([self.folder / "bgpsim-settle"], "bgpsim-settle"),
-                            (["-m", "bgptools", "settle"], "python3 -m bgptools settle")):
+        (self.folder / "bgpsim-converge").symlink_to(TOOLBOX / "launch")
+        for words, name in (([TOOLBOX / "converge"], "converge"), ([self.folder / "bgpsim-converge"], "bgpsim-converge"),
+                            (["-m", "bgptools", "converge"], "python3 -m bgptools converge")):
             told = alone([sys.executable, "-B", *words], TOOLBOX)
             self.assertEqual(told.returncode, 2)
             self.assertTrue(told.stderr.decode().startswith("usage: %s [-h]" % name), told.stderr)
             self.assertIn("\n%s: error: " % name, told.stderr.decode())
 
     def test_a_link_of_another_name(self):
-        (self.folder / "quiet").symlink_to(TOOLBOX / "settle")
+        (self.folder / "quiet").symlink_to(TOOLBOX / "converge")
         (self.folder / "again").symlink_to("quiet")
         told = alone([sys.executable, "-B", self.folder / "again", "-"], self.folder, SCRIPT, PROGRAM=location.program())
         self.assertEqual((told.returncode, told.stdout, told.stderr), (0, SCRIPT + DELIVERY, b""))
@@ -173,14 +173,14 @@ class Pip(Case):
 
     def check(self, site):
         """The package that was put into the folder has its tools, away from the repository."""
-        called = [sys.executable, "-B", "-m", "bgptools", "settle", "-"]
+        called = [sys.executable, "-B", "-m", "bgptools", "converge", "-"]
         told = alone(called, self.folder, SCRIPT, PYTHONPATH=site, PROGRAM=location.program())
         self.assertEqual((told.returncode, told.stdout, told.stderr), (0, SCRIPT + DELIVERY, b""))
-        asks = "import bgptools.cli.settle; print(bgptools.cli.settle.__file__)"
+        asks = "import bgptools.cli.converge; print(bgptools.cli.converge.__file__)"
         told = alone([sys.executable, "-B", "-c", asks], self.folder, PYTHONPATH=site)
-        self.assertEqual(told.stdout.decode(), "%s\n" % (site / "bgptools" / "cli" / "settle.py"))
+        self.assertEqual(told.stdout.decode(), "%s\n" % (site / "bgptools" / "cli" / "converge.py"))
         asks = ("import sys; from bgptools import Network; "
-                "print(Network.from_lines(sys.stdin.read()).settle().deliveries[0].prefix)")
+                "print(Network.from_lines(sys.stdin.read()).converge().deliveries[0].prefix)")
         called = [sys.executable, "-B", "-c", asks]
         told = alone(called, self.folder, SCRIPT, PYTHONPATH=site, PROGRAM=location.program())
         self.assertEqual((told.stdout, told.stderr), (b"10.0.0.0/8\n", b""))
@@ -220,7 +220,7 @@ class Pip(Case):
         for name in TOOLS:
             told = alone([site / "bin" / ("bgpsim-" + name), "--help"], self.folder, PYTHONPATH=site)
             self.assertTrue(told.stdout.decode().startswith("usage: bgpsim-%s [-h]" % name), told)
-        called = [site / "bin" / "bgpsim-settle", "-"]
+        called = [site / "bin" / "bgpsim-converge", "-"]
         told = alone(called, self.folder, SCRIPT, PYTHONPATH=site, PROGRAM=location.program())
         self.assertEqual((told.returncode, told.stdout), (0, SCRIPT + DELIVERY))
 

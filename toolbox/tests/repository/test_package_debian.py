@@ -159,7 +159,7 @@ class Package(Case):
         for word in ("--version", "-V"):
             told = alone([self.root / "usr/bin/bgpsim", word], self.folder, PATH=only)
             self.assertEqual((told.returncode, told.stdout, told.stderr), (0, wanted, b""))
-        told = self.run_there(["bgpsim-settle", "--version"])
+        told = self.run_there(["bgpsim-converge", "--version"])
         self.assertEqual((told.returncode, told.stdout, told.stderr), (0, wanted, b""))
 
     def test_the_script_passes_words_streams_and_exit_statuses(self):
@@ -196,14 +196,14 @@ class Package(Case):
     def test_each_tool_does_what_its_document_shows(self):
         shown = {name: example_of(name) for name in TOOLS}
         # The others are called below.
-        self.assertLessEqual({name for name in TOOLS if not shown[name]}, {"settle", "draw", "share", "join", "lab"})
+        self.assertLessEqual({name for name in TOOLS if not shown[name]}, {"converge", "draw", "share", "join", "lab"})
         for called, output, has_errors in filter(None, shown.values()):
             with self.subTest(called=called):
                 told = self.run_there(["bgpsim-" + called[0], *called[1:]])
                 self.assertRegex((has_errors * told.stderr + told.stdout).decode(), pattern(output))
 
-    def test_settle_and_draw(self):
-        told = self.run_there(["bgpsim-settle", "--at-end", "toolbox/lessons/three-ases.bgp"])
+    def test_converge_and_draw(self):
+        told = self.run_there(["bgpsim-converge", "--at-end", "toolbox/lessons/three-ases.bgp"])
         self.assertEqual(told.returncode, 0, told.stderr)
         self.assertEqual(self.run_there(["bgpsim", "script"], told.stdout + b"quiet\n").stdout.splitlines()[-1], b"yes")
         told = self.run_there(["bgpsim-draw", "toolbox/lessons/three-ases.bgp"])
@@ -236,7 +236,7 @@ class Package(Case):
             self.assertRegex(page, r"(?m)^\.SH SYNOPSIS\n\.B bgpsim-%s\n" % name)
 
     def test_it_is_a_package_of_the_systems_python(self):
-        told = alone([sys.executable, "-B", "-m", "bgptools", "settle", "-"], self.root, b"router 1.0.0.1 1\n",
+        told = alone([sys.executable, "-B", "-m", "bgptools", "converge", "-"], self.root, b"router 1.0.0.1 1\n",
                      PYTHONPATH=self.root / "usr/lib/python3/dist-packages", PATH=os.environ["PATH"])
         self.assertEqual((told.returncode, told.stdout, told.stderr), (0, b"router 1.0.0.1 1\n", b""))
 
@@ -348,13 +348,13 @@ class Completion(Case):
             self.assertEqual(offered | set(self.completed("bgpsim", *typed, "-")), wanted)
 
     def test_the_tools(self):
-        self.assertEqual(self.completed("bgpsim-settle", "--a"), ["--at-end"])
+        self.assertEqual(self.completed("bgpsim-converge", "--a"), ["--at-end"])
         self.assertEqual(self.completed("/usr/bin/bgpsim-draw", "--pr"), ["--prefix"])
         self.assertEqual(self.completed("bgpsim-what-if", "anna"), ["anna's", "anna.bgp"])
         self.assertEqual(self.completed("bgpsim-what-if", "anna.bgp", "anna."), ["anna.bgp"])
-        self.assertEqual(self.completed("bgpsim-settle", "anna.bgp", "-o", "anna."), ["anna.bgp"])
-        self.assertEqual(self.completed("bgpsim-settle", "--order", ""), ["drawn", "fair", "router"])
-        self.assertEqual(self.completed("bgpsim-settle", "--seed", ""), [])
+        self.assertEqual(self.completed("bgpsim-converge", "anna.bgp", "-o", "anna."), ["anna.bgp"])
+        self.assertEqual(self.completed("bgpsim-converge", "--order", ""), ["drawn", "fair", "router"])
+        self.assertEqual(self.completed("bgpsim-converge", "--seed", ""), [])
         self.assertEqual(self.completed("bgpsim-what-if", "--trace", "1.0.0.1", ""), [])
         self.assertEqual(self.completed("bgpsim-what-if", "--trace", "1.0.0.1", "10.0.0.1", "anna."), ["anna.bgp"])
         self.assertEqual(self.completed("bgpsim-from-frr", ""), ["anna's"])

@@ -63,13 +63,13 @@ class Studies(Case):
         at = lines.index("RFC 3345: 0 stable, in 20 drawn orders")
         self.assertEqual(lines[0], "DISAGREE: 2 stable, in 20 drawn orders")
         counts = {line.split(": ")[1]: int(line.split(": ")[0].split(" ")[-1]) for line in lines[1:at]}
-        self.assertEqual(set(counts), {*both, "it does not settle"})
-        told = tool("settle", TOOLBOX / "lessons" / "disagree.bgp", "--at-end", "--states", "20", status=1).stdout
+        self.assertEqual(set(counts), {*both, "it does not converge"})
+        told = tool("converge", TOOLBOX / "lessons" / "disagree.bgp", "--at-end", "--states", "20", status=1).stdout
         states = re.findall(r"in (\d+) of 20, as with --seed \d+\n.* path (2,3|3), ", told)
         self.assertEqual({both[path == "3"]: int(count) for count, path in states},
                          {state: counts[state] for state in both})
         self.assertEqual(lines[at + 1:], [
-            "  in 20: it does not settle",
+            "  in 20: it does not converge",
             "RFC 3345, where both reflectors compare MED over all neighbours: 1 stable, in 20 drawn orders",
             "  in 20: 1.0.0.1 by 6,100; 1.0.0.2 by 10,100; 1.0.0.3 by 6,100; 1.0.0.4 by 6,100; 1.0.0.5 by 6,100"])
 

@@ -40,7 +40,7 @@ _edits = strategies.lists(strategies.sampled_from(EDITS), min_size=1, max_size=2
 def converged(lines):
     """What a network of these lines is once its queues are empty."""
     with Network.from_lines(lines) as net:
-        net.settle()
+        net.converge()
         known = net.run.network
         policies = {way: list(rules) for way, rules in known.rules.items() if rules}
         clusters = {where: known.clusters.get(where, where) for where in known.nodes}

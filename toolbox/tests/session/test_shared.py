@@ -40,7 +40,7 @@ for line in sys.stdin.buffer:
     if here.exists() and here.read_text() in line:
         here.unlink()
         os._exit(7)
-    print("".join(each + "\\n" for each in inner.say(line)), end="", flush=True)
+    print("".join(each + "\\n" for each in inner.request(line)), end="", flush=True)
 """
 
 
@@ -380,7 +380,7 @@ class Working(Held):
                  "rule 1.0.0.1 2.0.0.1 out path 3 deny", "rule 1.0.0.1 2.0.0.2 out any deny")
         shared, _ = self.shared(*lines, *("origin %s %d.0.0.0/8" % (router, number) for number in (20, 30, 40)
                                           for router in ("1.0.0.1", "2.0.0.2")), workers=2)
-        self.settled(shared)
+        self.converged(shared)
         self.assertTrue(shared.program.is_quiet())
         self.assertEqual(self.ended(shared), "ok 21")
         taken = re.findall(r"@([0-9]+) deliver (\S+) (\S+)\n", self.log.read_text())
@@ -390,7 +390,7 @@ class Working(Held):
     def test_nothing_but_deliveries_that_took_is_theirs(self):
         shared, _ = self.shared(workers=3)
         shared.play(lines_of(THREE.read_bytes(), "three"))
-        self.settled(shared)
+        self.converged(shared)
         self.assertRegex(self.ended(shared), "^ok ")
         theirs = re.findall(r"@([123]) (\S+) [^\n]*\n= (\S+)", self.log.read_text())
         self.assertTrue(theirs)
@@ -406,7 +406,7 @@ class Working(Held):
                          ["deliver 1.0.0.1 2.0.0.1", "deliver 2.0.0.1 1.0.0.1"])
         self.assertEqual((shared.program.waiting(), shared.program.is_quiet()), ([("1.0.0.1", "2.0.0.1")], False))
         shared.deliveries.go(anna)
-        self.settled(shared)
+        self.converged(shared)
         by_hand = shared.deliveries
         self.assertEqual((shared.program.is_quiet(), by_hand.steps(anna, 1), by_hand.next(anna)), (True, [], None))
         self.assertEqual([event["text"] for event in shared.happening.taken() if event["event"] == "workers"], [
@@ -443,7 +443,7 @@ class Working(Held):
         shared, _ = self.shared(workers=2, most=300)
         endless = "\n".join(line for line in lines[:end] if not line.startswith("deliver"))
         shared.play(lines_of(endless.encode(), "endless"))
-        self.settled(shared)
+        self.converged(shared)
         self.assertFalse(shared.workers.is_going)
         told = [event["text"] for event in shared.happening.taken() if event["event"] == "workers"]
         self.assertRegex(told[-1], "the workers pause: after 3[0-9][0-9] deliveries without an edit it is not quiet")
@@ -508,16 +508,16 @@ class Limits(Held):
             # So it is where workers lose it: at a delivery, and at the question that comes behind it.
             for word in ("deliver", "quiet"):
                 here.write_text(word)
-                self.settled(shared)
+                self.converged(shared)
                 told = [event["text"] for event in shared.happening.taken() if event["event"] == "workers"]
                 self.assertRegex(told[-1], "^the workers pause: .*dies: the program ended before it had answered, ")
                 shared.deliveries.go(anna)
-            self.settled(shared)
+            self.converged(shared)
             self.assertEqual(self.said(shared, anna, "best 2.0.0.1 10.0.0.0/8")[0][:24], "10.0.0.0/8 from 1.0.0.1 ")
             self.assertEqual(self.said(shared, anna, "origin 1.0.0.1 30.0.0.0/8"), ["ok"])
             # Where memory is refused the message stays, and nothing is in the log.
             here.write_text("memory")
-            self.settled(shared)
+            self.converged(shared)
             why = "deliver 1.0.0.1 2.0.0.1: refused 20 memory: memory was refused"
             told = [event["text"] for event in shared.happening.taken() if event["event"] == "workers"]
             self.assertEqual(told[-1], "the workers pause: " + why)

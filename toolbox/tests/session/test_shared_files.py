@@ -297,8 +297,8 @@ class Bounds(Held):
         shared, anna = self.shared(*TWO, "origin 1.0.0.1 10.0.0.0/8", workers=1)
         shared.ledger.most_log = shared.ledger.size
         shared.happening.taken()
-        self.settled(shared)
-        self.settled(shared)
+        self.converged(shared)
+        self.converged(shared)
         told = [event["text"] for event in shared.happening.taken()]
         self.assertEqual(len(told), 1)
         self.assertRegex(told[0], "^the workers pause: the log has .* bytes of at most ")

@@ -306,7 +306,7 @@ class Recoveries(Held):
         told = [event["text"] for event in shared.happening.taken() if event["event"] == "workers"]
         self.assertEqual(told, ["the workers pause: an error came up (MemoryError)"])
         shared.deliveries.go(anna)
-        self.settled(shared)
+        self.converged(shared)
         self.assertEqual(self.ended(shared), "ok 6")
 
     def test_who_was_given_no_token_can_enter(self):

@@ -15,7 +15,7 @@ import time
 from bgptools.change.rollback import commands_back
 from bgptools.program.script import lines_of, read
 from bgptools.sweep import families
-from bgptools.sweep.player import Job, Player, settled_job
+from bgptools.sweep.player import Job, Player, converged_job
 from common import DATA, PATIENCE, TOOLBOX, TOP, Case, inside, tool
 from relations import relations
 
@@ -82,7 +82,7 @@ def numbers(told):
     neighbours = {(change["router"], (change["before"] or change["after"])["source"]) for change in told["told"]}
     return {**{kind: kinds.count(kind) for kind in ("moved", "lost", "gained")}, "told": len(neighbours),
             "black_holes": len(told["black_holes"]), "loops": len(told["loops"]), "packets": len(told["forwarding"]),
-            "messages": len(told["deliveries"]), "down": len(told["sessions_down"]), "is_settled": told["converged"]}
+            "messages": len(told["deliveries"]), "down": len(told["sessions_down"]), "is_converged": told["converged"]}
 
 
 class AsWhatIf(Case):
@@ -104,7 +104,7 @@ class AsWhatIf(Case):
             return found
 
     def player(self, base, made, **others):
-        player = Player(settled_job(Job(read(str(base)), [], words_of(**others), True)))
+        player = Player(converged_job(Job(read(str(base)), [], words_of(**others), True)))
         self.addCleanup(lambda: player.close())
         player.job.trials = made(player.quiet.network)
         return player
@@ -131,7 +131,7 @@ class AsWhatIf(Case):
             self.assert_as_what_if(player, base, at)
             self.assertEqual(player.renewed - before, CHANGES[text], text)
 
-    def test_what_does_not_settle_is_played_anew(self):
+    def test_what_does_not_converge_is_played_anew(self):
         base, ends = THREE, (("1.0.0.1 2.0.0.1", 2), ("2.0.0.1 3.0.0.1", 3), ("3.0.0.1 1.0.0.1", 1))
         wheel = "\n".join("rule %s in path %d permit pref=200" % each for each in ends)
         lines = tuple(lines_of((wheel + "\nnoorigin 1.0.0.1 198.51.100.0/24\n").encode(), "change"))
@@ -152,7 +152,7 @@ class AsWhatIf(Case):
 
     def test_all_that_is_configured_is_taken_back(self):
         with self.player(self.file("base", BASE), families.links).run as run:
-            before = Player(settled_job(Job(read(str(self.folder / "base")), [], words_of()))).quiet.network
+            before = Player(converged_job(Job(read(str(self.folder / "base")), [], words_of()))).quiet.network
             for change in (change for change, count in CHANGES.items() if not count):
                 for line in change.split("\n"):
                     run.say(line)
@@ -208,13 +208,13 @@ class Families(Case):
         one = inside("sweep", THREE, "--fail-links", "--csv").stdout
         self.assertIn(re.search(r"link 1.0.0.1 and 3.0.0.1,link,(.*)", one).group(1), told.stdout)
 
-    def test_orders_as_settle_tells_their_states(self):
+    def test_orders_as_converge_tells_their_states(self):
         told = inside("sweep", DISAGREE, "--orders", 10, "--jobs", 2)
-        states = inside("settle", DISAGREE, "--states", 10, "--at-end").stdout
+        states = inside("converge", DISAGREE, "--states", 10, "--at-end").stdout
         for number, many, seed in re.findall(r"State (\d+): in (\d+) of 10, as with --seed (\d+)", states):
             self.assertIn("state %s: in %s of 10, as with order %s\n" % (number, many, seed), told.stdout)
-        endless = int(re.search(r"(\d+) of 10 did not settle", states).group(1))
-        self.assertEqual((told.returncode, told.stdout.count("DOES NOT SETTLE")), (1, endless))
+        endless = int(re.search(r"(\d+) of 10 did not converge", states).group(1))
+        self.assertEqual((told.returncode, told.stdout.count("DOES NOT CONVERGE")), (1, endless))
         self.assertIn("2 stable states in 10 drawn orders\n", told.stdout)
 
     def test_mistakes_of_the_call(self):

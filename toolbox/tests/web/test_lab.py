@@ -312,7 +312,7 @@ class Served(AtServer):
         self.assertIn("update", texts)
         self.assertIn("from 2.0.0.1", texts)
 
-    def test_a_worker_settles_when_it_is_let_go(self):
+    def test_a_worker_converges_when_it_is_let_go(self):
         page = self.page("anna")
         self.assertEqual(page.ask("pace", a_second=100)["is_going"], False)
         self.assertEqual(page.ask("who")["quiet"], False)

@@ -57,9 +57,9 @@ def large(routers, steps):
     with Run() as run:
         for line in lines:
             run.say(line)
-        settled = run.settle()
+        converged = run.converge()
     made = [line for line in lines if not line.startswith("#")]
-    lines += ["deliver %s %s" % way for way in settled.deliveries[:steps - len(made)]]
+    lines += ["deliver %s %s" % way for way in converged.deliveries[:steps - len(made)]]
     return "\n".join(lines) + "\n"
 
 

@@ -1,4 +1,4 @@
-"""The prompt of `play`: commands as they are typed, with a history, completion, and words of its own as `settle` and `save`."""
+"""The prompt of `play`: commands as they are typed, with a history, completion, and words of its own as `converge` and `save`."""
 from __future__ import annotations
 
 import difflib
@@ -10,7 +10,7 @@ import tempfile
 from typing import TYPE_CHECKING, Callable, Dict, List, Optional, Tuple
 
 from ...convergence.run import Run
-from ...convergence.transcript import kept_back, tell, tell_settling
+from ...convergence.transcript import kept_back, tell, tell_convergence
 from ...network.configuration import Direction
 from ...network.refusals import sentence
 from ...program import libraries, output, script
@@ -34,7 +34,7 @@ PAD = "    "
 OWN = tuple(Form(spelling, meaning, "work at this prompt") for spelling, meaning in (
     ("? [COMMAND]", "this list; or one command, as in `? rule`"),
     ("next", "deliver the next waiting message: each queue gives one a round"),
-    ("settle", "deliver until all queues are empty"),
+    ("converge", "deliver until all queues are empty"),
     ("undo", "play all again but the last edit or feed and what came after it"),
     ("name A N", "A has the name N: it is shown, and taken where a command wants an address"),
     ("load FILE", "play a script into this network"),
@@ -59,7 +59,7 @@ class Prompt:
         self.suggests = False
         self.journal: Optional[journal.Journal] = None
         self.own: Dict[str, Callable[[List[str]], None]] = {
-            "?": self.help, "help": self.help, "next": self.next, "settle": self.settle, "undo": self.undo, "name": self.name,
+            "?": self.help, "help": self.help, "next": self.next, "converge": self.converge, "undo": self.undo, "name": self.name,
             "load": self.load, "explain": self.explain, "draw": self.draw, "what-if": self.what_if, "save": self.save}
         self.run = self._played([])
 
@@ -113,7 +113,7 @@ class Prompt:
         elif self.changes:
             self.run.lines = [line for line in _changes(self.lines) if not is_silent(line) or MARK.fullmatch(line)]
             for line, reply in self.changes:
-                self.run.settler.after(words_of(line), reply)
+                self.run.deliverer.after(words_of(line), reply)
         self.changes = []
 
     # What is typed
@@ -188,7 +188,7 @@ class Prompt:
 
     def waiting(self) -> List[Direction]:
         """Where messages wait, in order."""
-        ways = sorted(self.run.settler.suspects, key=lambda way: (by_address(way[0]), by_address(way[1])))
+        ways = sorted(self.run.deliverer.suspects, key=lambda way: (by_address(way[0]), by_address(way[1])))
         with self.keyboard.held():
             replies = self.run.ask("queue %s %s" % way for way in ways)
         return [way for way, reply in zip(ways, replies) if len(reply) > 1]
@@ -205,12 +205,12 @@ class Prompt:
             self.round = self.round or self.waiting()
         print(PAD + "quiet: no message waits")
 
-    def settle(self, _: List[str]) -> None:
+    def converge(self, _: List[str]) -> None:
         """Delivers until all queues are empty."""
         with self.keyboard.held():
-            done = self.run.settle()
-        tell_settling(PAD, done, self.run.network.names)
-        if done.is_settled:
+            done = self.run.converge()
+        tell_convergence(PAD, done, self.run.network.names)
+        if done.is_converged:
             print(PAD + "quiet after %d deliver%s" % (len(done.deliveries), "y" if len(done.deliveries) == 1 else "ies"))
 
     def undo(self, _: List[str]) -> None:

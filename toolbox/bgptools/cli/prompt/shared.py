@@ -23,11 +23,11 @@ from ...session.proposal import LONGEST_NAME
 from .local import OWN, PAD, Prompt, expect, path_of
 
 TOGETHER = "work together"
-CHANGED = ("undo", "settle", "next")
+CHANGED = ("undo", "converge", "next")
 WORDS = tuple(form for form in OWN if form.words[0] not in CHANGED) + tuple(
     Form(spelling, meaning, TOGETHER) for spelling, meaning in (
         ("next", "deliver the next waiting message by hand"),
-        ("settle", "deliver by hand until all queues are empty"),
+        ("converge", "deliver by hand until all queues are empty"),
         ("undo", "take back your last edit, where one edit does so exactly"),
         ("watch edits|all|off", "show what others change, as they do; with `all` deliveries, too"),
         ("who", "who is there, what the workers do, and whether anything waits"),
@@ -44,7 +44,7 @@ WORDS = tuple(form for form in OWN if form.words[0] not in CHANGED) + tuple(
         ("free NAME", "let whoever comes next have a name, where its owner has lost it")))
 WATCHED = {"edits": "what others edit is shown", "all": "what others edit is shown, and what is delivered",
            "off": "nothing is shown"}
-# A settle by hand ends after so many deliveries.
+# A converge by hand ends after so many deliveries.
 MOST = 10000
 
 
@@ -215,7 +215,7 @@ class SharedPrompt(Prompt):
         self._tell(["quiet: no message waits"] if is_quiet else ["%s: %s" % (told["line"], told["reply"][0])])
         return not is_quiet
 
-    def settle(self, _: List[str]) -> None:
+    def converge(self, _: List[str]) -> None:
         """Delivers by hand until all queues are empty."""
         count = 0
         while self._next():

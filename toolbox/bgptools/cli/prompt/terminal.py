@@ -29,7 +29,7 @@ from .completion import Completion
 from .editing import is_vi
 
 # What a key types into an empty line, and enters.
-KEYS = {"f1": "?", "f7": "undo", "f8": "next", "f9": "settle"}
+KEYS = {"f1": "?", "f7": "undo", "f8": "next", "f9": "converge"}
 # Of a longer file of the history, in bytes, the newer half is kept.
 LONGEST = 1 << 20
 

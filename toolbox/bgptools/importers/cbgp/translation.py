@@ -16,7 +16,7 @@ from .rules import PREFERENCE
 from .script import Picture
 
 HEAD = "# Preferences are C-BGP's and %d: a route to which nothing gives one has %d there, and %d here."
-RUN = "# sim run: here C-BGP delivers all that waits, and `settle` does"
+RUN = "# sim run: here C-BGP delivers all that waits, and `converge` does"
 
 
 class Translation:
@@ -41,7 +41,7 @@ class Translation:
         if not self.made.routers():
             raise Mistake("it has no router: `bgp add router AS A` is expected", files[0])
         if not self.source.has_run:
-            self.left.note(Place(files[-1], 0), "it has no `sim run`: C-BGP delivers nothing; `settle` does")
+            self.left.note(Place(files[-1], 0), "it has no `sim run`: C-BGP delivers nothing; `converge` does")
         if self.has_preference and self.source.preference != PREFERENCE:
             self.lines.insert(0, HEAD % (PREFERENCE - self.source.preference, self.source.preference, PREFERENCE))
 

@@ -125,5 +125,5 @@ def write(reading: Reading, path: str, form: str, out: "str | None") -> None:
     line_count.check_length(how_many, path, "{:,} of them are routes".format(reading.count))
     if how_many + reading.count > line_count.MOST_LINES:
         print("{}: with a delivery for each of its {:,} routes it would have more than {:,} lines: it cannot be "
-              "settled in one script".format(path, reading.count, line_count.MOST_LINES), file=sys.stderr)
+              "converged in one script".format(path, reading.count, line_count.MOST_LINES), file=sys.stderr)
     output.write("".join(line + "\n" for line in lines), out)

@@ -5,9 +5,9 @@ import argparse
 import sys
 from typing import List, Optional
 
-from ..convergence.delivery_script import settled
+from ..convergence.delivery_script import converged
 from ..convergence.orders import add_order, order_of
-from ..convergence.run import Run, unsettled
+from ..convergence.run import Run, not_converged
 from ..convergence.stable_states import look_for, text_of
 from ..convergence.tables_by_prefix import tables_of
 from ..program import display, output
@@ -18,11 +18,11 @@ from ..program.script import read
 
 def parser() -> argparse.ArgumentParser:
     """The words of the command line."""
-    made = argparse.ArgumentParser(prog="settle", description=(
+    made = argparse.ArgumentParser(prog="converge", description=(
         "Writes the script with the deliveries that empty all queues, after each command or at the end. Where they never are empty in one "
-        "order, others are tried, and it is told which settles."),
-        epilog="Exit status: 0; 1 where the network settles in no order that was tried, and then nothing is written (with --states, where "
-               "some drawn order does not settle); 2 a mistake, as a line that is refused and is not marked so. A delivery of the script "
+        "order, others are tried, and it is told which converges."),
+        epilog="Exit status: 0; 1 where the network converges in no order that was tried, and then nothing is written (with --states, where "
+               "some drawn order does not converge); 2 a mistake, as a line that is refused and is not marked so. A delivery of the script "
                "itself that finds nothing left is left out.")
     made.add_argument("script", metavar="SCRIPT", help="the script; - is standard input")
     made.add_argument("--at-end", action="store_true", help="deliver at the end only")
@@ -30,6 +30,7 @@ def parser() -> argparse.ArgumentParser:
     made.add_argument("--states", type=int, metavar="N", help="write no script, but which stable states N drawn orders end in, and how often")
     made.add_argument("--most", type=int, metavar="N", help=(
         "stop after so many deliveries at one place (ten thousand and more, by the size of the network)"))
+    made.add_argument("--all", action="store_true", help="tell all that keep changing where the network does not converge, and not only the first ones")
     made.add_argument("--by-prefix", type=int, metavar="N", help=(
         "write no script, but the chosen routes of all routers as `routes` replies them: the network is played with N of its prefixes at "
         "a time, by several processes"))
@@ -81,10 +82,10 @@ def main(words: Optional[List[str]] = None) -> int:
     if chosen.states is not None:
         return _states(chosen)
     with Run(order_of(chosen), chosen.most, tries_others=True) as run:
-        written, endless = settled(run, read(chosen.script), chosen.at_end)
+        written, endless = converged(run, read(chosen.script), chosen.at_end)
         names = run.network.names
     if endless:
-        print("%s: %s" % (chosen.script, unsettled(endless, names)), file=sys.stderr)
+        print("%s: %s" % (chosen.script, not_converged(endless, names, chosen.all)), file=sys.stderr)
         return CHANGED
     if written.left_out:
         print("%s: %d deliveries of its own found nothing left, and were left out" % (chosen.script, written.left_out), file=sys.stderr)
