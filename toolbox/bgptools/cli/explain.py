@@ -75,6 +75,16 @@ def _advert(run: Run, router: str, to: str, peer: str, done: Optional[Convergenc
     return told, DISAGREES if found.doubts else 0
 
 
+def _waiting(run: Run) -> str:
+    """How many messages no router has taken, and what to add; nothing where none waits."""
+    if run.ask(["quiet"])[0] == ["yes"]:
+        return ""
+    ways = [way for one, other in run.network.sessions() for way in ((one, other), (other, one))]
+    count = sum(max(0, len(reply) - 1) for reply in run.ask("queue %s %s" % way for way in ways))
+    return "%s; add `--settle`, and the network converges first" % (
+        "1 message waits" if count == 1 else "%d messages wait" % count)
+
+
 def main(words: Optional[List[str]] = None) -> int:
     """The tool."""
     chosen = parser().parse_args(words)
@@ -83,7 +93,7 @@ def main(words: Optional[List[str]] = None) -> int:
         router, to = _check(run, chosen.router, chosen.prefix)
         peer = None if chosen.to is None else _peer(run, router, chosen.to)
         done = run.converge() if chosen.converge else None
-        names, status = run.network.names, 0
+        names, status, waiting = run.network.names, 0, "" if done else _waiting(run)
         if peer is None:
             text = _routes(run, router, to, done, chosen.json)
         else:
@@ -92,6 +102,8 @@ def main(words: Optional[List[str]] = None) -> int:
             sys.stdout.write(text)
         else:
             display.show(text)
+    if waiting:
+        print("%s: %s" % (chosen.script, waiting), file=sys.stderr)
     if done and told_of(done):
         print("%s: %s" % (chosen.script, told_of(done, names)), file=sys.stderr)
     return status or (CHANGED if done and not done.is_converged else 0)

@@ -2,10 +2,11 @@
 from __future__ import annotations
 
 import argparse
+import sys
 from typing import List, Optional
 
 from ..importers.common.sources import add_words
-from ..importers.relationships.caida import Marking, Writer, core, origins_of, relations, within_limits
+from ..importers.relationships.caida import Marking, Writer, core, origins_of, provider_loop, relations, within_limits
 from ..program import output
 from ..program.line_count import check_length
 from ..program.mistakes import Mistake
@@ -32,6 +33,11 @@ def main(words: Optional[List[str]] = None) -> int:
     if chosen.core is not None and chosen.core < 2:
         raise Mistake("--core %d: at least 2 are expected" % chosen.core)
     known = within_limits(core(relations(chosen.file, chosen.most_unpacked), chosen.core), chosen.file)
+    loop = provider_loop(known)
+    if loop:
+        print("%s: note: AS %s, each a provider of the next one, are a loop; such a network may not converge. Write who "
+              "of two is the provider the other way, or 0 for peers" % (
+                  chosen.file, " > ".join(map(str, loop + loop[:1]))), file=sys.stderr)
     writer = (Marking if chosen.communities else Writer)(known, origins_of(known, chosen.origins, chosen.file))
     check_length(writer.count(), chosen.file, "--core N keeps fewer ASes")
     output.write("".join(line + "\n" for line in writer.lines()), chosen.out)

@@ -47,6 +47,17 @@ class Origins(Told):
         self.assertIn("a.conf:%d: note: network 203.0.113.0/24" % at(text, "network 203.0.113.0/24 route-map ONLY"),
                       made.stderr)
 
+    def test_what_another_line_originates(self):
+        """A map that cannot be judged is not told of a prefix that another line originates."""
+        text = self.one("network 10.0.1.0/30", "redistribute connected route-map M", more=[
+            "route-map M permit 10", " match interface eth1"])
+        made = self.convert({"a.conf": text}, status=1)
+        self.assertEqual(made.stdout.count("origin "), 1)
+        self.assertNotIn("`origin 10.0.0.1 10.0.1.0/30`", made.stderr)
+        self.assert_told(made, "a.conf", at(text, "redistribute connected route-map M"), "`origin 10.0.0.1 10.0.0.1/32`")
+        without = self.convert({"a.conf": text.replace(" network 10.0.1.0/30\n", "")}, status=1)
+        self.assertIn("`origin 10.0.0.1 10.0.1.0/30`", without.stderr)
+
     def test_redistributed_routes(self):
         text = self.one("redistribute connected", "redistribute static route-map ONLY", "redistribute kernel",
                         more=["ip route 198.51.100.0/24 10.0.1.2", "ip route 203.0.113.0 255.255.255.0 Null0",
@@ -302,10 +313,30 @@ class Policies(Told):
         self.assertEqual((self.rules(made, "10.0.0.1 10.0.0.9 in"), self.rules(made, "10.0.0.1 10.0.0.9 out")),
                          (["any permit"], ["any deny"]))
 
+    def test_a_missing_policy_is_noted(self):
+        """RFC 8212 denies all routes of a session without a policy: a note says so, with the line that allows them."""
+        note = ("%s:%d: note: neighbor %s: there is no policy on the way %s for %s; FRR denies all routes there (RFC "
+                "8212), and so do the rules here. If FRR is to take them, write `no bgp ebgp-requires-policy` below "
+                "`router bgp`\n")
+        text = border("neighbor 10.0.0.2 next-hop-self").replace(" no bgp ebgp-requires-policy\n", "")
+        line = "neighbor 10.9.0.2 remote-as 65002"
+        for more, way in (("", "in and out"), (" neighbor 10.9.0.2 distribute-list ALL in\n", "out"),
+                          (" neighbor 10.9.0.2 distribute-list ALL out\n", "in")):
+            made = self.convert({"a.conf": text + more + "access-list ALL permit any\n" * bool(more), "b.conf": inner(),
+                                 "c.conf": OUTSIDE}, status=0)
+            self.assertEqual(made.stderr, note % ("a.conf", at(text, line), line[9:], way, "10.9.0.2"))
+        second = " neighbor 10.9.1.2 remote-as 65003\n neighbor 10.9.1.2 disable-connected-check\n"
+        made = self.convert({"a.conf": text + second, "b.conf": inner(), "c.conf": OUTSIDE})
+        self.assertIn(note % ("a.conf", at(text, line), line[9:], "in and out", "10.9.0.2, 10.9.1.2"), made.stderr)
+        for off in (" neighbor 10.9.0.2 shutdown\n", " no bgp ebgp-requires-policy\n"):
+            self.assertEqual(self.convert({"a.conf": text + off, "b.conf": inner(), "c.conf": OUTSIDE}).stderr, "")
+
     def test_what_a_rule_cannot_set(self):
         for said, words in (("set weight 5", "weight"), ("set as-path prepend 65001", "path stays"),
                             ("set ip next-hop 10.9.9.9", "next hop"),
-                            ("set local-preference +10", "reckoned"), ("set origin egp", "sets preference")):
+                            ("set local-preference +10", "reckoned"), ("set metric rtt", "reckoned"),
+                            ("set local-preference two", "a number from 0 to 4294967295 is expected"),
+                            ("set origin egp", "sets preference")):
             with self.subTest(said=said):
                 made = self.policy("route-map M permit 10", " " + said, status=1)
                 self.assert_told(made, "a.conf", at(self.text, said), words)

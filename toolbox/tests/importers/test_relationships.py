@@ -105,6 +105,16 @@ class Hijacks(Case):
 
 
 class Relationships(Case):
+    def test_a_loop_of_providers_is_told(self):
+        """Whoever is above or below of it, or peers with it; the script is written."""
+        for loop, shown in (("1|2|-1\n2|3|-1\n3|1|-1\n", "2 > 3 > 1 > 2"), ("5|6|-1\n6|7|-1\n7|8|-1\n8|6|-1\n", "7 > 8 > 6 > 7")):
+            path = self.file("rel", loop + "9|1|-1\n9|5|-1\n3|10|-1\n6|10|0\n10|11|-1\n")
+            made = tool("from-as-rel", path, "--origins", "11", status=0)
+            self.assertEqual(made.stderr, "%s: note: AS %s, each a provider of the next one, are a loop; such a network may not "
+                             "converge. Write who of two is the provider the other way, or 0 for peers\n" % (path, shown))
+            self.assertIn("origin 10.0.11.1 ", made.stdout)
+        self.assertEqual(tool("from-as-rel", self.file("rel", "1|2|-1\n2|3|-1\n1|3|-1\n3|4|0\n4|1|0\n"), status=0).stderr, "")
+
     def test_the_policies_name_no_customer_and_no_prefix(self):
         """So whatever an AS originates later goes to all its neighbours. AS 4 originates nothing, and has the peer 5 and the providers 1 and 2."""
         text = "1|4|-1\n2|4|-1\n4|5|0\n4|6|-1\n1|2|0\n"

@@ -2,10 +2,13 @@
 to write."""
 from __future__ import annotations
 
+from typing import Dict, List
+
 from ...program.language import address
 from ..common.checks import check_network, compares_med, external_peers, some_of
-from ..common.configuration import Config, short
+from ..common.configuration import Config, Neighbour, short
 from ..common.network import Network
+from .rules import requires_policy
 
 # What FRR does of MED without `bgp deterministic-med`.
 _IN_ORDER = ("compares each route with the best before it, so that where MED decides between some of three the choice "
@@ -17,7 +20,8 @@ def check(network: Network) -> None:
     check_network(network)
     _check_costs(network)
     _check_choice(network)
-    for config in network.routers.values():
+    for name, config in network.routers.items():
+        _check_required(network, name, config)
         _check_six(config)
         _check_interfaces(config)
         _check_unused(config)
@@ -66,6 +70,20 @@ def _check_order_of_med(network: Network) -> None:
         config.tell(config.line, "%s: without `bgp deterministic-med`, which is off by default but in the datacenter "
                     "profile, FRR %s; so it is at %s. `bgp deterministic-med` makes FRR do the same" % (
                         short(config.line.text), _IN_ORDER, some_of(grouped)))
+
+
+def _check_required(network: Network, name: str, config: Config) -> None:
+    """Neighbours whose routes are denied for want of a policy: a note for those that lack the same one."""
+    lacking: Dict[str, List[Neighbour]] = {}
+    for other, each in network.peers_of(name):
+        ways = [way for way in ("in", "out") if requires_policy(config, each, way, network.is_external(name, other))]
+        if ways and frozenset((name, other)) not in network.stopped:
+            lacking.setdefault(" and ".join(ways), []).append(each)
+    for said, found in lacking.items():
+        line = found[0].line
+        config.tell(line, "%s: there is no policy on the way %s for %s; FRR denies all routes there (RFC 8212), and so "
+                    "do the rules here. If FRR is to take them, write `no bgp ebgp-requires-policy` below `router bgp`"
+                    % (short(line.text), said, ", ".join(each.name for each in found)), False)
 
 
 def _check_six(config: Config) -> None:

@@ -70,11 +70,17 @@ def given(said: str) -> Optional[Given]:
 def unsaid(said: Given, is_bare: bool) -> str:
     """Why a rule of an external session does not set it, or nothing. `is_bare`: all routes come without communities."""
     if not said.is_additive and not is_bare:
-        hint = ". Write `add=%d` where routes come with none" % said.numbers[0] if len(said.numbers) == 1 else ""
-        return "FRR takes the communities away that a route came with, and no rule does; the line is left out" + hint
+        return ("FRR takes the communities away that a route came with, and no rule does; the line is left out. Write "
+                "%s where routes come with none" % _added(said))
     if len(said.numbers) > 1:
-        return "a rule adds one community, and these are %d; the line is left out" % len(said.numbers)
+        return "a rule adds one community, and these are %d; the line is left out. Write %s, whichever decides" % (
+            len(said.numbers), _added(said))
     return ""
+
+
+def _added(said: Given) -> str:
+    """The settings of rules that add one of the communities."""
+    return " or ".join("`add=%d`" % each for each in said.numbers)
 
 
 # What a list is about

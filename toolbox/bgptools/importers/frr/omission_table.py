@@ -65,6 +65,7 @@ COUNTED.update({
 })
 
 _ONE_WAY = "one route is chosen and packets go one way here"
+_FOR_WORST = "For a neighbour that sends no MED, write `med=4294967295` in its rules on the way in"
 _OTHER_KINDS = "there are no large and no extended communities here"
 
 # Lines that may decide a route: what comes of leaving them out.
@@ -86,8 +87,10 @@ TOLD.update({
         ("pbr-policy", "packets follow the policy in FRR, and routes alone here")),
     "bgp": table(
         ("bgp bestpath med (confed missing-as-worst|missing-as-worst confed)", "FRR takes a missing MED for the "
-         "highest, and compares MED inside a confederation; here a missing one is 0, and there are no confederations"),
-        ("bgp bestpath med missing-as-worst", "FRR takes a missing MED for the highest; here a missing one is 0"),
+         "highest, and compares MED inside a confederation; here a missing one is 0, and there are no confederations. "
+         + _FOR_WORST),
+        ("bgp bestpath med missing-as-worst", "FRR takes a missing MED for the highest; here a missing one is 0. "
+         + _FOR_WORST),
         ("bgp bestpath med confed", "FRR compares MED between routes that come from inside its confederation; there "
          "are no confederations here"),
         ("bgp bestpath as-path (ignore|confed)", "FRR takes no path for shorter, or counts confederations; here the "
@@ -133,8 +136,8 @@ TOLD.update({
         ("advertise-map", "FRR tells the routes only while others are there, or are not; here always"),
         ("unsuppress-map", "FRR tells parts of an aggregate to this neighbour; here no part is kept back from any"),
         ("maximum-prefix-out", "FRR tells no more prefixes than that; here all are told"),
-        ("maximum-prefix", "FRR ends the session when more prefixes come; here all are taken. Write `stop` for what "
-         "FRR does then"),
+        ("maximum-prefix", "FRR ends the session when more prefixes come; here all are taken. For what FRR does "
+         "then, write `stop ROUTER NEIGHBOUR` with both addresses as the script has them"),
         ("addpath-tx-all-paths|addpath-tx-bestpath-per-AS", "FRR tells several routes a prefix; here one is told, "
          "the chosen one"),
         ("capability orf", "FRR's neighbour does not tell what the prefix list here denies; here it tells all, and the list "
@@ -158,12 +161,15 @@ TOLD.update({
         ("match alias", "communities have no other names here; match a community list"),
         (r"match (metric|local-preference|origin|tag|peer|interface|source-\S+|probability|rpki|ip next-hop|ip "
          r"route-source|ip address prefix-len|ip6?|ipv6|evpn|rmap|weight|set|aspath|as-path)",
-         "rules match by prefix, by an AS in the path, by the neighbouring AS and by a community"),
+         "rules match by prefix, by an AS in the path, by the neighbouring AS and by a community; write one of these "
+         "matches, as `match ip address prefix-list`"),
         ("call", "a rule calls no other policy"), ("on-match|continue", "the first rule that matches decides"),
         ("set ip next-hop", "the next hop is what the session gives"),
         ("set (origin|originator-id|distance|as-path (exclude|replace))",
          "a rule sets preference, MED and prepending, and adds one community; nothing else"),
-        ("set (local-preference|metric)", "a rule sets a number, and none that is reckoned from the route's")),
+        (r"set (local-preference|metric) ([+-]\S+|\S*rtt|igp|aigp)", "a rule sets a number, and none that is reckoned "
+         "from the route's; write the number that comes of it"),
+        ("set (local-preference|metric)", "a number from 0 to 4294967295 is expected; write one")),
 })
 
 # Blocks that are no part of the default instance, of IPv4 unicast or of OSPF: what is told of them, or nothing where

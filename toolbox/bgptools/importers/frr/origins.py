@@ -1,7 +1,7 @@
 """What each router originates, by its `network` and `redistribute` lines, and where FRR would choose otherwise."""
 from __future__ import annotations
 
-from typing import Dict, List, Optional
+from typing import Dict, List, Optional, Tuple
 
 from ...program.language import contains
 from ..common.configuration import Config, Line, Origin, Prefix, short
@@ -16,11 +16,19 @@ def origins_of(network: Network, name: str) -> List[Own]:
     """The prefixes that a router originates, each once; what is left out is told."""
     config = network.routers[name]
     found: Dict[Prefix, Own] = {}
+    unclear: List[Tuple[Prefix, Line, str]] = []
     for origin in config.origins:
         for where in _prefixes(network, name, origin):
-            own = _judged(network, name, origin, where)
-            if own is not None:
+            reason = _doubt(network, name, origin, where)
+            own = None if reason else _judged(config, origin, where)
+            if reason:
+                unclear.append((where, origin.line, reason))
+            elif own is not None:
                 found.setdefault(where, own)
+    for where, line, reason in unclear:
+        # Another line may originate the prefix without doubt.
+        if where not in found:
+            config.tell(line, "%s: %s" % (short(line.text), reason))
     return list(found.values())
 
 
@@ -36,22 +44,25 @@ def _prefixes(network: Network, name: str, origin: Origin) -> List[Prefix]:
     return [where for where in dict.fromkeys(subnets) if not any(contains(own, where) for own in OF_NO_NETWORK)]
 
 
-def _judged(network: Network, name: str, origin: Origin, where: Prefix) -> Optional[Own]:
-    config, line = network.routers[name], origin.line
-    said = short(line.text)
+def _doubt(network: Network, name: str, origin: Origin, where: Prefix) -> str:
+    """Why the files do not show whether a line originates a prefix, and what to write if it does; else nothing."""
+    config = network.routers[name]
     if origin.kind == "network" and config.is_on("bgp network import-check") and not has_route(network, name, where):
-        config.tell(line, "%s: no connected, static or interior route of the files is to this prefix, and FRR "
-                    "originates it only where there is one; write `origin %s %s` if there is" % (
-            said, name, shown(where)))
-        return None
+        return ("no connected, static or interior route of the files is to this prefix, and FRR originates it only "
+                "where there is one; write `origin %s %s` if there is" % (name, shown(where)))
+    if judged(config, origin.map, where).is_permit is None:
+        return ("what its route-map says of %s cannot be told, so that it is not originated here; write `origin %s %s` "
+                "if it is" % (shown(where), name, shown(where)))
+    return ""
+
+
+def _judged(config: Config, origin: Origin, where: Prefix) -> Optional[Own]:
+    """A prefix that a line originates, unless its map denies it."""
+    line = origin.line
     is_permit, settings = judged(config, origin.map, where)
-    if is_permit is None:
-        config.tell(line, "%s: what its route-map says of %s cannot be told, so that it is not originated here; write "
-                    "`origin %s %s` if it is" % (said, shown(where), name, shown(where)))
-        return None
     if not is_permit:
         config.tell(line, "%s: its route-map denies %s, so that FRR does not originate it, and neither is it here" % (
-            said, shown(where)), False)
+            short(line.text), shown(where)), False)
         return None
     for kind, (value, at) in settings.items():
         _tell_setting(config, line, kind, value, at, where)
@@ -111,4 +122,5 @@ def tell_incomplete(network: Network) -> None:
         config, line = lines[0]
         more = " (and %d more lines like it)" % (len(lines) - 1) if len(lines) > 1 else ""
         config.tell(line, "%s%s: FRR gives what is redistributed ORIGIN incomplete, and an own route has igp here; "
-                    "that decides where a prefix has several origins" % (short(line.text), more))
+                    "that decides where a prefix has several origins. `network` in its place makes FRR do the same" % (
+                        short(line.text), more))

@@ -20,14 +20,19 @@ def policy(config: Config, each: Neighbour, way: str, place: Place, world: World
     """The rules for what comes from a neighbour, or goes to it; nothing where there is no policy."""
     used = [(kind, *each.filters[kind, way]) for kind in ("route-map",) + FILTERS if (kind, way) in each.filters]
     if not used:
-        # As FRR does where it requires a policy (RFC 8212).
-        return [(ANY, DENY)] if place.is_external and config.is_on("bgp ebgp-requires-policy") else None
+        return [(ANY, DENY)] if requires_policy(config, each, way, place.is_external) else None
     rules: Rules[Action] = [(ANY, PERMIT)]
     for kind, name, line in used:
         rules = _map_rules(config, name, line, place, world) if kind == "route-map" else _filtered(config, kind, name,
             line, rules, place, world)
     rules = shortened(rules)
     return rules
+
+
+def requires_policy(config: Config, each: Neighbour, way: str, is_external: bool) -> bool:
+    """Whether FRR denies all routes of a neighbour on this way, since no policy is set (RFC 8212)."""
+    has_policy = any((kind, way) in each.filters for kind in ("route-map",) + FILTERS)
+    return not has_policy and is_external and config.is_on("bgp ebgp-requires-policy")
 
 
 def _filtered(config: Config, kind: str, name: str, line: Line, rules: Rules[Action], place: Place,

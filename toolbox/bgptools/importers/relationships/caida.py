@@ -73,6 +73,26 @@ def relations(path: str, most: int = MOST_UNPACKED) -> Relations:
     return found
 
 
+def provider_loop(known: Relations) -> List[int]:
+    """ASes of which each sells to the next one, and the last to the first; none where there is no such loop."""
+    left = {asn: len(known.providers[asn]) for asn in known.asns()}
+    free = [asn for asn, count in left.items() if not count]
+    while free:
+        asn = free.pop()
+        del left[asn]
+        for customer in known.customers[asn]:
+            left[customer] -= 1
+            if not left[customer]:
+                free.append(customer)
+    # Who is left has a provider that is left: following them comes to a loop.
+    walk: List[int] = []
+    here = min(left, default=0)
+    while here and here not in walk:
+        walk.append(here)
+        here = min(asn for asn in known.providers[here] if asn in left)
+    return walk[walk.index(here):][::-1] if walk else []
+
+
 def core(whole: Relations, count: Optional[int]) -> Relations:
     """The ASes with the most relationships, so many of them, with those between them."""
     if count is None:
