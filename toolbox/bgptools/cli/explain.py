@@ -81,7 +81,7 @@ def _waiting(run: Run) -> str:
         return ""
     ways = [way for one, other in run.network.sessions() for way in ((one, other), (other, one))]
     count = sum(max(0, len(reply) - 1) for reply in run.ask("queue %s %s" % way for way in ways))
-    return "%s; add `--settle`, and the network converges first" % (
+    return "%s; add `--converge`, and the network converges first" % (
         "1 message waits" if count == 1 else "%d messages wait" % count)
 
 

@@ -130,15 +130,15 @@ feed 2.0.0.1 9.0.0.1 update 198.51.100.0/24 2 igp 0""".split("\n")))
         self.assertEqual((told.stdout, told.stderr), ("", "standard input:2: refused 2 no-router: there is no router or virtual peer 2.0.0.1\n"))
 
     def test_messages_that_wait_are_told(self):
-        """Without --settle: how many messages wait, those of a virtual peer among them, and what to add."""
+        """Without --converge: how many messages wait, those of a virtual peer among them, and what to add."""
         script = AS_FIVE + FEED % ""
         for more, said in (("", "1 message waits"), (FEED.replace("10.0.0.0", "11.0.0.0") % "", "2 messages wait")):
             path = self.file("waits.bgp", script + more)
             told = tool("explain", path, "rr", "10.0.0.0/8", status=0)
             self.assertEqual((told.stdout, told.stderr), (
                 "10.0.0.0/8 at rr (5.0.0.1): no route\n",
-                "%s: %s; add `--settle`, and the network converges first\n" % (path, said)))
-        self.assertEqual(tool("explain", "--settle", path, "rr", "10.0.0.0/8", status=0).stderr, "")
+                "%s: %s; add `--converge`, and the network converges first\n" % (path, said)))
+        self.assertEqual(tool("explain", "--converge", path, "rr", "10.0.0.0/8", status=0).stderr, "")
         is_empty = script + "deliver 7.0.0.1 5.0.0.2\ndeliver 5.0.0.2 5.0.0.1\ndeliver 5.0.0.1 8.0.0.1\n"
         path = self.file("waits.bgp", is_empty)
         self.assertEqual(tool("explain", path, "rr", "10.0.0.0/8", status=0).stderr, "")
