@@ -465,17 +465,17 @@ class Fuzzer(Case):
         fuzzer.exemptions = []
         self.assertIn("nothing comes of `sylsog` in line 1: log @ all;", self.word(fuzzer, text, "syslog", "sylsog"))
 
-    def test_what_is_drawn(self):
-        """Each importer has inputs that it takes, and all kinds of changes are drawn, the same for the same seed."""
+    def test_the_cases_of_seeds(self):
+        """Each importer has inputs that it takes, and has changes of all kinds, the same for the same seed."""
         fuzzer = self.fuzzer()
         for importer, given in fuzzer.inputs.items():
             for each in given:
                 found = fuzzer.run(each, each.files)
                 self.assertEqual((found.fault, found.status in (0, 1, 2)), ("", True), each.name)
         self.assertEqual(set(fuzzer.inputs), set(fuzz_importers.OFTEN))
-        cases = [fuzzer.drawn(seed) for seed in range(300)]
+        cases = [fuzzer.case_of(seed) for seed in range(300)]
         self.assertEqual({case.kind for case in cases}, {*mutations.KINDS, "word", "packed"})
-        self.assertEqual(cases[:20], [fuzzer.drawn(seed) for seed in range(20)])
+        self.assertEqual(cases[:20], [fuzzer.case_of(seed) for seed in range(20)])
         self.assertTrue(all(case.change.content != case.input.files[case.file] for case in cases if case.change.word))
 
     def test_the_command(self):
