@@ -6,7 +6,7 @@ from unittest import mock
 from common import DATA, EXAMPLES, TOOLBOX, Case, marked
 
 from bgptools.convergence.orders import Drawn, Order, RouterByRouter
-from bgptools.convergence.recurrence import matches, repetition
+from bgptools.convergence.recurrence import Replay, matches, repetition
 from bgptools.convergence.run import Run
 from bgptools.program import process
 from bgptools.program.language import by_address
@@ -228,6 +228,29 @@ class Recurrences(Case):
                 self.assertEqual(state(other), now)
                 other.repeat(run.lines[-18:])
                 self.assertEqual(state(other), now)
+
+    def test_the_state_takes_several_repetitions(self):
+        """Deliveries may repeat themselves before the state does, and then that is the period, or none is seen."""
+        for states, period in (("abca", 54), ("abbc", 18), ("abcdefgh" * 8, 144), (map(str, range(1000)), 0)):
+            with self.subTest(period=period), Run(most=1000) as run:
+                run.play(lines_of(BAD_GADGET.encode(), "gadget.bgp"))
+                with mock.patch.object(Replay, "state", side_effect=states):
+                    done = run.converge()
+                self.assertEqual((done.is_converged, done.period), (False, period))
+                self.assertEqual(done.restless, {"203.0.113.0/24": ["1.0.0.1", "2.0.0.1", "3.0.0.1"]})
+
+    def test_what_is_a_state(self):
+        """What was received, and what waits where."""
+        begin = ["router 1.0.0.1 1", "router 2.0.0.1 2", "virtual 7.0.0.1 7"]
+        begin += [word % other for other in ("2.0.0.1", "7.0.0.1") for word in ("link 1.0.0.1 %s 1", "join 1.0.0.1 %s")]
+        feed, delivery = "feed 7.0.0.1 1.0.0.1 update 10.0.0.0/8 %s igp -", "deliver 7.0.0.1 1.0.0.1"
+        found = []
+        for more in ([feed % "7"], [feed % "7,8"], [feed % "7", delivery], [feed % "7,8", delivery],
+                     [feed % "7", delivery, "deliver 1.0.0.1 2.0.0.1"], [feed % "7,8", delivery, "deliver 1.0.0.1 2.0.0.1"], []):
+            with Run() as run:
+                run.play(lines_of("\n".join(begin + more).encode(), "states.bgp"))
+                found.append(Replay(run.program, run.network, [], []).state({delivery}))
+        self.assertEqual(len(set(found)), 7)
 
     def test_a_limit_that_is_too_low_to_see_it(self):
         """Who chose another route twice or more in the second half is told."""
