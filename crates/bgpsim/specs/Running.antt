@@ -1,6 +1,6 @@
 -- What the program does: what the words of its command line ask for, on three streams, and with which exit status
 -- (own).
-use Rattle.std.specs.Prelude.{◌≡◌, ◌⊎◌, ℕ, false, List, [], map, Result, Ok, Err, IfOk, MatchResult}
+use Rattle.std.specs.Prelude.{◌≡◌, ◌⊎◌, ℕ, Bool, false, List, [], map, Result, Ok, Err, IfOk, MatchResult}
 use Rattle.clap.specs.Words.{Text, FailsBy, fault_of, kind_of}
 use Rattle.clap.specs.declared.error.Error.{Error}
 use Rattle.clap.specs.declared.error.kind.ErrorKind.{ErrorKind}
@@ -71,22 +71,23 @@ abbrev pub AreNamed : List Text → List FileBook → Type 0
 AreNamed names files = map (λ (file : FileBook). file.name) files ≡ names
 
 -- a team was run on the files of these names, of which something is left, by so many workers, each with so many turns;
--- nothing else was read
-pub record IsTeamPlayed (names : List Text) (workers turns : ℕ) (i : Reading) (o errors : Writing) (status : ℕ)
-    (i' : Reading) (o' errors' : Writing) : Type 0 where
+-- nothing else was read. Whether the errors are told to a terminal is known
+pub record IsTeamPlayed (names : List Text) (workers turns : ℕ) (is_terminal : Bool) (i : Reading) (o errors : Writing)
+    (status : ℕ) (i' : Reading) (o' errors' : Writing) : Type 0 where
   pub files : List FileBook
   pub left : List FileBook
   pub named : AreNamed names files
-  pub run : IsTeamRun files left workers turns o errors status o' errors'
+  pub run : IsTeamRun files left workers turns is_terminal o errors status o' errors'
   pub unread : i' ≡ i
 
--- what was asked for was run
-abbrev pub IsRunOf : Choice → Reading → Writing → Writing → ℕ → Reading → Writing → Writing → Type 0
-IsRunOf Script i o errors status i' o' errors' = IsServed i o errors status i' o' errors'
-IsRunOf Converge i o errors status i' o' errors' = IsServedByConverge i o errors status i' o' errors'
-IsRunOf Replay i o errors status i' o' errors' = IsReplayed i o errors status i' o' errors'
-IsRunOf (ForTeam team) i o errors status i' o' errors' =
-    IsTeamPlayed (map (λ file. file.now) team.files.items) team.workers team.turns i o errors status i' o' errors'
+-- what was asked for was run. A team alone asks whether the errors are told to a terminal
+abbrev pub IsRunOf : Choice → Bool → Reading → Writing → Writing → ℕ → Reading → Writing → Writing → Type 0
+IsRunOf Script is_terminal i o errors status i' o' errors' = IsServed i o errors status i' o' errors'
+IsRunOf Converge is_terminal i o errors status i' o' errors' = IsServedByConverge i o errors status i' o' errors'
+IsRunOf Replay is_terminal i o errors status i' o' errors' = IsReplayed i o errors status i' o' errors'
+IsRunOf (ForTeam team) is_terminal i o errors status i' o' errors' =
+    IsTeamPlayed (map (λ file. file.now) team.files.items) team.workers team.turns is_terminal i o errors status
+    i' o' errors'
 
 -- ---- the program
 
@@ -96,8 +97,8 @@ IsRefused kind i o errors status i' o' errors' = (i' ≡ i) × (o' ≡ o) × IsS
 
 -- the words were read as the commands are: what they ask for was run; or they have a fault, or memory ran out before
 -- anything of it began, and that was shown
-abbrev pub IsProgramRun : List Text → Reading → Writing → Writing → ℕ → Reading → Writing → Writing → Type 0
-IsProgramRun words i o errors status i' o' errors' = (chosen : Result Choice Error)
+abbrev pub IsProgramRun : List Text → Bool → Reading → Writing → Writing → ℕ → Reading → Writing → Writing → Type 0
+IsProgramRun words is_terminal i o errors status i' o' errors' = (chosen : Result Choice Error)
     × FailsBy (fault_of commands words) chosen × IfOk chosen (Chooses words)
-    × MatchResult chosen (λ choice. IsRunOf choice i o errors status i' o' errors')
+    × MatchResult chosen (λ choice. IsRunOf choice is_terminal i o errors status i' o' errors')
     (λ error. IsRefused (kind_of error) i o errors status i' o' errors')

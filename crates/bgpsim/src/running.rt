@@ -57,7 +57,7 @@ pub(crate) fn run<
     requires fresh { streams.old.input.failed ≡ false }
     requires calm { streams.old.output.failed ≡ false }
     requires shown { streams.old.output.held ≡ false }
-    ensures { IsProgramRun (map string_bytes words.now)
+    ensures { IsProgramRun (map string_bytes words.now) streams.old.is_terminal
         streams.old.input streams.old.output streams.old.errors (exit_status result)
         streams.new.input streams.new.output streams.new.errors }
 {
@@ -74,7 +74,7 @@ fn run_words<
     requires fresh { streams.old.input.failed ≡ false }
     requires calm { streams.old.output.failed ≡ false }
     requires shown { streams.old.output.held ≡ false }
-    ensures { IsProgramRun (map string_bytes words.now)
+    ensures { IsProgramRun (map string_bytes words.now) streams.old.is_terminal
         streams.old.input streams.old.output streams.old.errors result
         streams.new.input streams.new.output streams.new.errors }
 {
@@ -96,7 +96,7 @@ fn run_chosen<
     requires fresh { streams.old.input.failed ≡ false }
     requires calm { streams.old.output.failed ≡ false }
     requires shown { streams.old.output.held ≡ false }
-    ensures run { IfOk result (λ status. IsProgramRun (map string_bytes words.now)
+    ensures run { IfOk result (λ status. IsProgramRun (map string_bytes words.now) streams.old.is_terminal
         streams.old.input streams.old.output streams.old.errors status
         streams.new.input streams.new.output streams.new.errors) }
     ensures fault { IfErr result (HasKind (fault_of commands (map string_bytes words.now))) }
@@ -119,7 +119,7 @@ fn run_choice<
     requires fresh { streams.old.input.failed ≡ false }
     requires calm { streams.old.output.failed ≡ false }
     requires shown { streams.old.output.held ≡ false }
-    ensures run { IfOk result (λ status. IsRunOf choice.now
+    ensures run { IfOk result (λ status. IsRunOf choice.now streams.old.is_terminal
         streams.old.input streams.old.output streams.old.errors status
         streams.new.input streams.new.output streams.new.errors) }
     ensures unread { OnErr result (streams.new.input ≡ streams.old.input) }
@@ -245,8 +245,8 @@ fn play_team<
     requires calm { streams.old.output.failed ≡ false }
     requires shown { streams.old.output.held ≡ false }
     ensures run { IfOk result (λ status. IsTeamPlayed (map (λ file. file.now) team.now.files.items)
-        team.now.workers team.now.turns streams.old.input streams.old.output streams.old.errors status
-        streams.new.input streams.new.output streams.new.errors) }
+        team.now.workers team.now.turns streams.old.is_terminal streams.old.input streams.old.output
+        streams.old.errors status streams.new.input streams.new.output streams.new.errors) }
     ensures unread { OnErr result (streams.new.input ≡ streams.old.input) }
     ensures unwritten { OnErr result (streams.new.output ≡ streams.old.output) }
     ensures untold { OnErr result (streams.new.errors ≡ streams.old.errors) }

@@ -1,5 +1,5 @@
 -- Seats whose books differ, by their numbers and notes alone.
-use Rattle.std.proofs.Common.{◌≡◌, ℕ, ◌+◌, cond, nat_eq, List, [], ◌∷◌, length, map, fold, count_by, slice_get, Some, refl, sym, ap, ◌∙◌, inl, inr}
+use Rattle.std.proofs.Common.{◌≡◌, ℕ, ◌+◌, cond, nat_eq, List, [], ◌∷◌, map, fold, refl, sym, ap, ◌∙◌, inl, inr}
 use Rattle.std.specs.List.{AllByRecursion}
 use Rattle.std.specs.Option.{option_map}
 use Rattle.std.proofs.lemmas.List.{length-map}
@@ -9,7 +9,7 @@ use Rattle.reference_machine.specs.Histories.{calls_of}
 use Rattle.room.specs.declared.room.record.Fault.{Fault}
 use Rattle.room.specs.declared.room.record.Fault.TheVariants.{MissingSeat, BookDiffers}
 use Rattle.room.specs.Books.{SeatBook}
-use Rattle.room.specs.Closing.{AllAgree, IsEachOnce, IsFault, times}
+use Rattle.room.specs.Closing.{AllAgree, IsEachOnce, IsFault}
 use Rattle.team_run.specs.TeamRun.{Notes, AreComplete, HaveOtherBooks}
 use Rattle.team_run.specs.Playing.{HasUnlike, notes_of}
 

@@ -1,6 +1,6 @@
 -- Whose calls a history holds, once each seat's notes are its calls in it.
-use Rattle.std.proofs.Common.{◌≡◌, ℕ, ◌+◌, ◌-◌, ◌<◌, ◌≤◌, ◌%◌, zero, suc, List, [], ◌∷◌, ◌++◌, length, drop, refl, sym, ap, ◌∙◌, subst, arith}
-use Rattle.std.specs.List.{AllZip, AllByRecursion}
+use Rattle.std.proofs.Common.{◌≡◌, ℕ, ◌+◌, ◌-◌, ◌<◌, ◌≤◌, ◌%◌, zero, suc, List, [], ◌∷◌, ◌++◌, map, length, drop, refl, sym, ap, ◌∙◌, subst, arith}
+use Rattle.std.specs.List.{AllZip}
 use Rattle.std.specs.Str.Lines.{lines}
 use Rattle.std.proofs.Math.Nat.{mod-eq_of_lt}
 use Rattle.std.proofs.lemmas.List.{length_push, length-drop}
@@ -12,7 +12,8 @@ use Rattle.room.specs.Books.{SeatBook, blank_seat, blank_seats}
 use Rattle.room.specs.Closing.{Agrees, AllAgree}
 use Rattle.desk.specs.Desks.{AllWorkedFrom, IsDeliveryOf, IsWorked}
 use Rattle.team_run.specs.TeamRun.{AreCalled, AreOfScripts, AreOfWorkers, IsDeliveryTo, IsOfWorker}
-use Rattle.team_run.specs.Playing.{AreBack, Engineering, HasPlayed, engineers_of}
+use Rattle.team_run.specs.declared.told.ToldLine.{ToldLine}
+use Rattle.team_run.specs.Playing.{AreBack, HasPlayed, PlayedBook, all_told, engineers_of}
 
 -- ---- the seats of a new room
 
@@ -48,26 +49,32 @@ numbered_behind n (suc k) (seat ∷ seats) enough all = subst (λ m. AreNumbered
 -- ---- engineers who have played
 
 -- one of them
-of_script : (n file : ℕ) (script : List ℕ) (blank seat : SeatBook) (history : List Entry)
-    → blank ≡ blank_seat n → HasPlayed (record { file = file; script = script; seat = blank }) seat →
-    Agrees history seat → AreCalled (lines script) (calls_of n history)
-of_script n file script blank seat history is played agrees =
-    let number : seat.number ≡ n = played.same ∙ ap (λ (s : SeatBook). s.number) is in
-    let same : calls_of n history ≡ played.calls =
-    ap (λ k. calls_of k history) (sym number) ∙ agrees ∙ played.noted
-    ∙ ap (λ (s : SeatBook). s.notes ++ played.calls) is in
-    subst (λ calls. AreCalled (lines script) calls) (sym same) played.called
+of_script : (n : ℕ) (script : List ℕ) (blank : SeatBook) (played : PlayedBook) (history : List Entry)
+    → blank ≡ blank_seat n → HasPlayed (record { file = n + 1; script = script; seat = blank }) played →
+    Agrees history played.seat → AreCalled (n + 1) 1 (lines script) (calls_of n history) played.told
+of_script n script blank played history is so agrees =
+    let number : played.seat.number ≡ n = so.same ∙ ap (λ (s : SeatBook). s.number) is in
+    let same : calls_of n history ≡ so.calls =
+    ap (λ k. calls_of k history) (sym number) ∙ agrees ∙ so.noted
+    ∙ ap (λ (s : SeatBook). s.notes ++ so.calls) is in
+    subst (λ calls. AreCalled (n + 1) 1 (lines script) calls played.told) (sym same)
+    (subst (λ told. AreCalled (n + 1) 1 (lines script) so.calls told) (sym so.behind) so.called)
 
-of_scripts : (n file : ℕ) (scripts : List (List ℕ)) (seats came : List SeatBook) (history : List Entry)
-    → length scripts ≤ length seats → AreNumbered n seats → AllZip HasPlayed (engineers_of file scripts seats) came →
-    AllAgree history came → AreOfScripts n scripts history
+of_scripts : (n : ℕ) (scripts : List (List ℕ)) (seats : List SeatBook) (came : List PlayedBook) (history : List Entry)
+    → length scripts ≤ length seats → AreNumbered n seats → AllZip HasPlayed (engineers_of (n + 1) scripts seats) came
+    → AllAgree history (map (λ (p : PlayedBook). p.seat) came) →
+    AreOfScripts n scripts history (all_told (map (λ (p : PlayedBook). p.told) came))
 unfolding AreNumbered
-of_scripts n file [] seats came history enough all played agree = tt
-of_scripts n file (script ∷ scripts) [] came history enough all played agree = absurd (omega arith)
-of_scripts n file (script ∷ scripts) (blank ∷ seats) [] history enough all played agree = absurd played
-of_scripts n file (script ∷ scripts) (blank ∷ seats) (seat ∷ came) history enough all played agree = (
-  of_script n file script blank seat history all.0 played.0 agree.0,
-  of_scripts (n + 1) (file + 1) scripts seats came history (omega arith) all.1 played.1 agree.1,
+of_scripts n [] seats [] history enough all played agree = refl
+of_scripts n [] seats (one ∷ came) history enough all played agree = absurd played
+of_scripts n (script ∷ scripts) [] came history enough all played agree = absurd (omega arith)
+of_scripts n (script ∷ scripts) (blank ∷ seats) [] history enough all played agree = absurd played
+of_scripts n (script ∷ scripts) (blank ∷ seats) (one ∷ came) history enough all played agree = (
+  one.told,
+  all_told (map (λ (p : PlayedBook). p.told) came),
+  refl,
+  of_script n script blank one history all.0 played.0 agree.0,
+  of_scripts (n + 1) scripts seats came history (omega arith) all.1 played.1 agree.1,
 )
 
 agree_behind : (history : List Entry) (front back : List SeatBook) → AllAgree history (front ++ back) →
@@ -118,11 +125,12 @@ agree_before history [] back agree = tt
 agree_before history (seat ∷ front) back agree = (agree.0, agree_before history front back agree.1)
 
 -- a team's workers came back, and each has its calls in the history
-pub team_deliveries : (scripts : List (List ℕ)) (workers turns : ℕ) (blank came : List SeatBook) (history : List Entry)
+pub team_deliveries : (scripts : List (List ℕ)) (workers turns : ℕ) (blank came : List SeatBook)
+    (told : List (List ToldLine)) (history : List Entry)
     → blank ≡ blank_seats (length scripts + workers)
-    → AreBack workers turns (engineers_of 1 scripts blank) (drop (length scripts) blank) came →
+    → AreBack workers turns (engineers_of 1 scripts blank) (drop (length scripts) blank) came told →
     AllAgree history came → AreOfWorkers (length scripts) workers turns history
-team_deliveries scripts workers turns blank came history is back agree = λ worker low.
+team_deliveries scripts workers turns blank came told history is back agree = λ worker low.
     let engineers = length scripts in
     let all = blank_seats (engineers + workers) in
     let long : length all ≡ engineers + workers = length_blank (engineers + workers) in
@@ -130,7 +138,8 @@ team_deliveries scripts workers turns blank came history is back agree = λ work
     let within : worker < length (drop engineers all) = omega arith in
     let work = subst (λ seats. AllWorkedFrom 0 workers turns (drop engineers seats) back.worked) is back.work in
     let sits = numbered_behind 0 engineers all (omega arith) (numbered (engineers + workers)) in
-    let agreed = agree_before history back.worked back.played (subst (AllAgree history) back.together agree) in
+    let agreed = agree_before history back.worked (map (λ (p : PlayedBook). p.seat) back.played)
+    (subst (AllAgree history) back.together agree) in
     let own : IsOfWorker ((0 + worker) % workers) workers turns (calls_of ((0 + engineers) + worker) history) =
     of_workers (0 + engineers) 0 workers turns (drop engineers all) back.worked history sits work agreed worker within in
     let seat : (0 + engineers) + worker ≡ engineers + worker = omega arith in
@@ -142,11 +151,14 @@ team_deliveries scripts workers turns blank came history is back agree = λ work
 
 -- a team's seats came back, and each has its calls in the history
 pub team_history : (n shards turns : ℕ) (scripts : List (List ℕ)) (blank workers came : List SeatBook)
-    (history : List Entry)
-    → blank ≡ blank_seats n → length scripts ≤ n → AreBack shards turns (engineers_of 1 scripts blank) workers came →
-    AllAgree history came → AreOfScripts 0 scripts history
-team_history n shards turns scripts blank workers came history is enough back agree =
+    (told : List (List ToldLine)) (history : List Entry)
+    → blank ≡ blank_seats n → length scripts ≤ n
+    → AreBack shards turns (engineers_of 1 scripts blank) workers came told →
+    AllAgree history came → AreOfScripts 0 scripts history (all_told told)
+team_history n shards turns scripts blank workers came told history is enough back agree =
     let played : AllZip HasPlayed (engineers_of 1 scripts (blank_seats n)) back.played =
     subst (λ seats. AllZip HasPlayed (engineers_of 1 scripts seats) back.played) is back.play in
-    of_scripts 0 1 scripts (blank_seats n) back.played history (omega (arith, length_blank n)) (numbered n) played
-    (agree_behind history back.worked back.played (subst (AllAgree history) back.together agree))
+    subst (λ all. AreOfScripts 0 scripts history (all_told all)) (sym back.lines)
+    (of_scripts 0 scripts (blank_seats n) back.played history (omega (arith, length_blank n)) (numbered n) played
+    (agree_behind history back.worked (map (λ (p : PlayedBook). p.seat) back.played)
+    (subst (AllAgree history) back.together agree)))

@@ -1,4 +1,4 @@
 pub mod EngineerThreads
 pub mod Playing
+pub mod Screen
 pub mod TeamRun
-pub mod Told

@@ -1,10 +1,12 @@
--- What it means to run a team: whose calls its log holds, its exit status, and what is told where no thread is started
--- (own).
-use Rattle.std.specs.Prelude.{◌≡◌, ◌≢◌, ◌⊎◌, ℕ, ◌+◌, ◌<◌, ◌≤◌, ◌%◌, true, false, List, [], ◌∷◌, length, slice_get, count_by, nat_eq, All, Some}
+-- What it means to run a team: whose calls its log holds, its exit status, and what is told (own).
+use Rattle.std.specs.Prelude.{◌≡◌, ◌≢◌, ◌⊎◌, ℕ, ◌+◌, ◌<◌, ◌≤◌, ◌%◌, Bool, true, false, List, [], ◌∷◌, ◌++◌, map, length, codes, slice_get, count_by, nat_eq, All, Some}
+use Rattle.std.specs.Fmt.{decimal}
 use Rattle.std.specs.List.{AllByRecursion}
 use Rattle.std.specs.Str.Lines.{lines}
 use Rattle.std.specs.Io.KnownBytes.{Appends}
 use Rattle.watched.specs.Streams.{Writing, AppendsFront}
+use Rattle.net_conf.specs.declared.refusal.Refusal.{Refusal}
+use Rattle.net_conf.specs.declared.refusal.Refusal.TheVariants.{Syntax, Memory}
 use Rattle.sim_event.specs.declared.entry.Entry.{Entry}
 use Rattle.sim_event.specs.declared.entry.Call.{Call}
 use Rattle.sim_event.specs.declared.event.Event.{Event}
@@ -12,30 +14,41 @@ use Rattle.sim_event.specs.declared.event.Event.TheVariants.{Deliver}
 use Rattle.net_prefix.specs.declared.addr.Addr.{Addr}
 use Rattle.command_text.specs.Lines.{IsSilent, IsFault, Means}
 use Rattle.reference_machine.specs.Histories.{IsLegal, calls_of}
-use Rattle.reply_text.specs.declared.ending.RunFault.{RunFault}
+use Rattle.reply_text.specs.Replies.{refusal_text}
 use Rattle.reply_text.specs.declared.ending.RunFault.TheVariants.{Unwritten, NoMemory, BookDiffers}
 use Rattle.reply_text.specs.Ending.{success, read_fault, write_fault, no_memory, fault_text, unread_text, IsTold, IsWithoutMemory}
 use Rattle.log_text.specs.Logs.{log_text}
 use Rattle.script_files.specs.Sources.{FileBook, AreRead, IsFirstUnread}
+use Rattle.team_run.specs.declared.told.ToldLine.{ToldLine}
 
--- ---- whose calls the log holds
+-- ---- whose calls the log holds, and which lines make none
 
--- a line that makes no call: it is blank or a comment; or it spells no event; or there was no memory for the event that
--- it means
-abbrev pub MakesNoCall : List ℕ → Type 0
-MakesNoCall line = IsSilent line ⊎ (IsFault line ⊎ ((event : Event) × Means line event))
+-- why a line makes no call: it spells no event; or there was no memory for the event that it means
+abbrev pub IsUncalled : List ℕ → Refusal → Type 0
+IsUncalled line Syntax = IsFault line
+IsUncalled line Memory = (event : Event) × Means line event
+IsUncalled line _ = ⊥
 
--- the calls of lines, in their order: each line makes the call of the event that it means, or none
-abbrev pub AreCalled : List (List ℕ) → List Call → Type 0
-AreCalled [] calls = calls ≡ []
-AreCalled (line ∷ more) calls = (MakesNoCall line × AreCalled more calls)
-    ⊎ ((first : Call) × (rest : List Call) × (calls ≡ first ∷ rest) × Means line first.event × AreCalled more rest)
+-- the calls of lines, the first of which has this number in the file, and what is told of those that make none, both in
+-- the order of the lines: nothing comes of a line that is blank or a comment; each other one makes the call of the event
+-- that it means, or is told with why it makes none
+abbrev pub AreCalled : ℕ → ℕ → List (List ℕ) → List Call → List ToldLine → Type 0
+AreCalled file number [] calls told = (calls ≡ []) × (told ≡ [])
+AreCalled file number (line ∷ more) calls told =
+    (IsSilent line × AreCalled file (number + 1) more calls told)
+    ⊎ (((first : Call) × (rest : List Call) × (calls ≡ first ∷ rest) × Means line first.event
+    × AreCalled file (number + 1) more rest told)
+    ⊎ ((refusal : Refusal) × (rest : List ToldLine)
+    × (told ≡ record { file = file; line = number; refusal = refusal } ∷ rest) × IsUncalled line refusal
+    × AreCalled file (number + 1) more calls rest))
 
--- the calls of the seats, from the one of this number on, are those of the scripts' lines
-abbrev pub AreOfScripts : ℕ → List (List ℕ) → List Entry → Type 0
-AreOfScripts seat [] history = Unit {0}
-AreOfScripts seat (script ∷ more) history = AreCalled (lines script) (calls_of seat history)
-    × AreOfScripts (seat + 1) more history
+-- the calls of the seats, from the one of this number on, are those of the scripts' lines; and what is told of the lines
+-- that make none, script by script. Files count from 1, as lines do
+abbrev pub AreOfScripts : ℕ → List (List ℕ) → List Entry → List ToldLine → Type 0
+AreOfScripts seat [] history told = told ≡ []
+AreOfScripts seat (script ∷ more) history told = (first : List ToldLine) × (rest : List ToldLine)
+    × (told ≡ first ++ rest) × AreCalled (seat + 1) 1 (lines script) (calls_of seat history) first
+    × AreOfScripts (seat + 1) more history rest
 
 -- the call is a delivery to a receiver of the shard: the receiver's address, modulo the shards
 abbrev pub IsDeliveryTo : ℕ → ℕ → Call → Type 0
@@ -53,10 +66,12 @@ abbrev pub AreOfWorkers : ℕ → ℕ → ℕ → List Entry → Type 0
 AreOfWorkers engineers workers turns history = (worker : ℕ) → worker < workers →
     IsOfWorker worker workers turns (calls_of (engineers + worker) history)
 
--- a legal history, in which the seats from 0 on call the scripts, and the workers behind them deliver
-pub record IsTeamHistory (scripts : List (List ℕ)) (workers turns : ℕ) (history : List Entry) : Type 0 where
+-- a legal history, in which the seats from 0 on call the scripts, but for the lines that are told, and the workers behind
+-- them deliver
+pub record IsTeamHistory (scripts : List (List ℕ)) (workers turns : ℕ) (history : List Entry)
+    (told : List ToldLine) : Type 0 where
   pub legal : IsLegal history
-  pub called : AreOfScripts 0 scripts history
+  pub called : AreOfScripts 0 scripts history told
   pub delivered : AreOfWorkers (length scripts) workers turns history
 
 -- ---- what was written
@@ -72,20 +87,25 @@ pub record IsFrontOf (history : List Entry) (o o' : Writing) : Type 0 where
   pub written : AppendsFront o.written o'.written (log_text history)
   pub failed : o'.failed ≡ true
 
--- that of a team's history
-abbrev pub IsLogged : List (List ℕ) → ℕ → ℕ → Writing → Writing → Type 0
-IsLogged scripts workers turns o o' = (history : List Entry) × IsTeamHistory scripts workers turns history
-    × IsLogOf history o o'
+-- ---- what was told
 
-abbrev pub IsCutOff : List (List ℕ) → ℕ → ℕ → Writing → Writing → Type 0
-IsCutOff scripts workers turns o o' = (history : List Entry) × IsTeamHistory scripts workers turns history
-    × IsFrontOf history o o'
+-- of a line that makes no call: the file and the line, and the refusal as a script's reply tells it
+abbrev pub told_text : ToldLine → List ℕ
+told_text told = codes "file " ++ decimal told.file ++ codes " line " ++ decimal told.line ++ codes ": "
+    ++ refusal_text told.refusal
+
+-- the texts were told, one after another; where one was not told whole, those behind it were told all the same
+abbrev pub AreTold : Writing → List (List ℕ) → Writing → Type 0
+AreTold errors [] errors' = errors' ≡ errors
+AreTold errors (text ∷ more) errors' = (next : Writing) × IsTold errors text next × AreTold next more errors'
+
+-- the texts were told: nothing else, unless at a terminal, where other texts may stand before them
+pub record AreToldLast (is_terminal : Bool) (errors : Writing) (texts : List (List ℕ)) (errors' : Writing) : Type 0 where
+  pub before : Writing
+  pub nothing_else : is_terminal ≡ false → before ≡ errors
+  pub told : AreTold before texts errors'
 
 -- ---- how it ends
-
--- this was told last
-abbrev pub IsToldLast : List ℕ → Writing → Type 0
-IsToldLast text errors' = (errors : Writing) × IsTold errors text errors'
 
 -- a seat: its number, and its notes
 abbrev pub Notes : Type 0
@@ -110,19 +130,38 @@ HaveOtherBooks seats =
     ((place : ℕ) × (seat : Notes) × (slice_get seats place ≡ Some seat) × HasOtherCalls seat)
     ⊎ ((count : ℕ) × (history : List Entry) × (AreComplete count history seats → ⊥))
 
--- there was no memory, or the books differ: nothing was written, and this was told last
-abbrev pub IsBroken : Writing → Writing → Writing → Type 0
-IsBroken o o' errors' = (o' ≡ o)
-    × (IsToldLast (fault_text NoMemory) errors'
-    ⊎ (((seats : List Notes) × HaveOtherBooks seats) × IsToldLast (fault_text BookDiffers) errors'))
+-- the log of a team's history was written, and it was told of the lines that make no call
+pub record IsLogged (scripts : List (List ℕ)) (workers turns : ℕ) (is_terminal : Bool)
+    (o errors o' errors' : Writing) : Type 0 where
+  pub history : List Entry
+  pub told : List ToldLine
+  pub team : IsTeamHistory scripts workers turns history told
+  pub log : IsLogOf history o o'
+  pub texts : AreToldLast is_terminal errors (map told_text told) errors'
+
+-- it was cut off, which was told, too, last
+pub record IsCutOff (scripts : List (List ℕ)) (workers turns : ℕ) (is_terminal : Bool)
+    (o errors o' errors' : Writing) : Type 0 where
+  pub history : List Entry
+  pub told : List ToldLine
+  pub team : IsTeamHistory scripts workers turns history told
+  pub front : IsFrontOf history o o'
+  pub texts : AreToldLast is_terminal errors (map told_text told ++ fault_text Unwritten ∷ []) errors'
+
+-- there was no memory, or the books differ: nothing was written, and this was told
+abbrev pub IsBroken : Bool → Writing → Writing → Writing → Writing → Type 0
+IsBroken is_terminal o errors o' errors' = (o' ≡ o)
+    × (AreToldLast is_terminal errors (fault_text NoMemory ∷ []) errors'
+    ⊎ (((seats : List Notes) × HaveOtherBooks seats)
+    × AreToldLast is_terminal errors (fault_text BookDiffers ∷ []) errors'))
 
 -- scripts that were read were played, with so many workers, each with so many turns: the log was written; or it was cut
--- off, which was told last; or nothing was written
-abbrev pub IsPlayed : List (List ℕ) → ℕ → ℕ → Writing → ℕ → Writing → Writing → Type 0
-IsPlayed scripts workers turns o status o' errors' =
-    ((status ≡ success) × IsLogged scripts workers turns o o')
-    ⊎ (((status ≡ write_fault) × IsCutOff scripts workers turns o o' × IsToldLast (fault_text Unwritten) errors')
-    ⊎ ((status ≡ no_memory) × IsBroken o o' errors'))
+-- off; or nothing was written
+abbrev pub IsPlayed : List (List ℕ) → ℕ → ℕ → Bool → Writing → Writing → ℕ → Writing → Writing → Type 0
+IsPlayed scripts workers turns is_terminal o errors status o' errors' =
+    ((status ≡ success) × IsLogged scripts workers turns is_terminal o errors o' errors')
+    ⊎ (((status ≡ write_fault) × IsCutOff scripts workers turns is_terminal o errors o' errors')
+    ⊎ ((status ≡ no_memory) × IsBroken is_terminal o errors o' errors'))
 
 -- nothing was written, since a file was not read, the first such, and that alone was told
 abbrev pub IsUnread : List FileBook → List FileBook → Writing → Writing → ℕ → Writing → Writing → Type 0
@@ -130,8 +169,10 @@ IsUnread files left o errors status o' errors' = (status ≡ read_fault) × (o' 
     × IsFirstUnread files left name × IsTold errors (unread_text name) errors'
 
 -- a team was run on files, of which this is left: its scripts were read and played, or not all were read, or there was
--- no memory for them
-abbrev pub IsTeamRun : List FileBook → List FileBook → ℕ → ℕ → Writing → Writing → ℕ → Writing → Writing → Type 0
-IsTeamRun files left workers turns o errors status o' errors' =
-    ((scripts : List (List ℕ)) × AreRead files scripts × IsPlayed scripts workers turns o status o' errors')
+-- no memory for them. Whether the errors are told to a terminal is known
+abbrev pub IsTeamRun : List FileBook → List FileBook → ℕ → ℕ → Bool → Writing → Writing → ℕ → Writing → Writing →
+    Type 0
+IsTeamRun files left workers turns is_terminal o errors status o' errors' =
+    ((scripts : List (List ℕ)) × AreRead files scripts
+    × IsPlayed scripts workers turns is_terminal o errors status o' errors')
     ⊎ (IsUnread files left o errors status o' errors' ⊎ IsWithoutMemory o errors status o' errors')

@@ -6,7 +6,8 @@ ghost use Rattle.desk.specs.Desks.{AllWorked};
 ghost use Rattle.team_run.specs.EngineerThreads.{AreToPlay, IsToPlay};
 ghost use Rattle.team_run.specs.Playing.{AreBack, Engineering, HasPlayed};
 
-use crate::engineer::{Engineer, play};
+use crate::engineer::{Engineer, Played, play};
+use crate::screen::Screen;
 use crate::told::Told;
 use cell_engine::Cell;
 use desk::{Desk, Gate, Seat, run_workers};
@@ -24,12 +25,12 @@ use watched::Sink;
 /// After how many jobs a worker tells anew how far the team is.
 const JOBS_BETWEEN: u64 = 1_000;
 
-/// Lets all workers pass, and where that is wanted tells how far the team is.
+/// Lets all workers pass, and at a terminal tells how far the team is.
 #[derive(Drop)]
 struct Teller<'a, 'e, S: Selector, T: PrefixTable<Cell<S>>, L: Ledger, E: Sink, R: Wait> {
     rt: &'a R,
     desk: &'a Desk<S, T, L>,
-    told: &'a Told<'e, E>,
+    screen: Option<&'a Screen<'e, E>>,
 }
 
 impl<'a, 'e, S: Selector, T: PrefixTable<Cell<S>>, L: Ledger, E: Sink, R: Wait> Gate
@@ -37,9 +38,10 @@ impl<'a, 'e, S: Selector, T: PrefixTable<Cell<S>>, L: Ledger, E: Sink, R: Wait> 
     fn taken(&self, _worker: usize, _n: u64) {}
 
     fn worked(&self, _worker: usize, n: u64) {
-        if n % JOBS_BETWEEN == 1 && self.told.tells_progress() {
-            self.told
-                .tell_progress(self.rt, self.desk.progress(self.rt));
+        if let Some(screen) = self.screen {
+            if n % JOBS_BETWEEN == 1 {
+                screen.show(self.rt, self.desk.progress(self.rt));
+            }
         }
     }
 
@@ -48,33 +50,46 @@ impl<'a, 'e, S: Selector, T: PrefixTable<Cell<S>>, L: Ledger, E: Sink, R: Wait> 
     }
 }
 
-/// From the seat that an engineer's thread hands back its script was called.
+/// From the seat that an engineer's thread hands back its script was called, but for the lines that it tells.
 #[derive(Drop)]
 struct HasCalledScript<L: Ledger>(Snapshot<Engineer<L>>);
 
-impl<L: Ledger> Promise<Seat<L>> for HasCalledScript<L> {
+impl<L: Ledger> Promise<Result<Played<L>, AllocError>> for HasCalledScript<L> {
+    ghost use Rattle.std.specs.Prelude.{IfOk};
     ghost use Rattle.team_run.specs.Playing.{HasPlayed};
 
-    ghost kept_by = { λ promise seat. HasPlayed promise.0.value seat };
+    ghost kept_by = { λ promise result. IfOk result (HasPlayed promise.0.value) };
 }
 
 /// The thread of an engineer.
-type EngineerThread<L> = PromisedHandle<Seat<L>, HasCalledScript<L>>;
+type EngineerThread<L> = PromisedHandle<Result<Played<L>, AllocError>, HasCalledScript<L>>;
 
-/// The seats of engineers, once all have ended, behind those of the workers.
+/// What comes back once all threads have ended: the seats of the workers and then of the engineers, and what each of the
+/// engineers tells.
+#[derive(Drop)]
+pub(crate) struct Back<L: Ledger> {
+    pub(crate) seats: Vec<Seat<L>>,
+    pub(crate) told: Vec<Told>,
+}
+
+/// What engineers hand back, once all have ended, behind the seats of the workers.
 fn join_all<L: Ledger, R: Threads>(
     rt: &R,
+    alloc: Global,
     threads: Vec<EngineerThread<L>>,
     mut seats: Vec<Seat<L>>,
-) -> Result<Vec<Seat<L>>, AllocError>
+) -> Result<Back<L>, AllocError>
     ensures { IfOk result (λ back. (shards turns : ℕ) (workers : List SeatBook) (engineers : List Engineering) →
         AllWorked shards turns workers seats.items → AreToPlay engineers threads.items →
-        AreBack shards turns engineers workers back.items) }
+        AreBack shards turns engineers workers back.seats.items back.told.items) }
 {
+    let mut all = Vec::new(alloc);
     for thread in threads {
-        seats.push(thread.join(rt))?;
+        let Played { seat, told } = thread.join(rt)?;
+        seats.push(seat)?;
+        all.push(told)?;
     }
-    Ok(seats)
+    Ok(Back { seats, told: all })
 }
 
 /// What the threads of a team have in common.
@@ -91,7 +106,8 @@ pub(crate) struct Crew<
     pub(crate) rt: &'a R,
     pub(crate) alloc: Global,
     pub(crate) desk: &'a Desk<S, T, L>,
-    pub(crate) told: &'a Told<'e, E>,
+    /// Where it is told how far they are, if anywhere.
+    pub(crate) screen: Option<&'a Screen<'e, E>>,
     /// How many engineers have not ended.
     pub(crate) at_work: &'a AtomicU64,
     /// How many turns each worker has.
@@ -109,22 +125,22 @@ impl<
 > Crew<'a, 'e, S, T, L, E, R> {
     /// Starts a thread for each engineer, and those of the workers, and waits for all. The seats of all come back, of
     /// the workers first. An engineer whose thread cannot be started has ended; this is want of memory, as is none
-    /// for the threads or the seats. All threads are started from one frame, so that this thread's stack does not grow
+    /// for the threads, the seats or what is told. All threads are started from one frame, so that this thread's stack does not grow
     /// with their number.
     pub(crate) fn run(
         &self,
         engineers: Vec<Engineer<L>>,
         workers: Vec<Seat<L>>,
-    ) -> Result<Vec<Seat<L>>, AllocError>
-        ensures { IfOk result (λ seats. AreBack self.now.desk.now.shards self.now.turns engineers.items workers.items
-            seats.items) }
+    ) -> Result<Back<L>, AllocError>
+        ensures { IfOk result (λ back. AreBack self.now.desk.now.shards self.now.turns engineers.items workers.items
+            back.seats.items back.told.items) }
     {
         thread::scope(
             thread::scope_env(),
             self.rt,
-            |scope| -> Result<Vec<Seat<L>>, AllocError>
-                ensures { IfOk result (λ seats. AreBack self.entry.now.desk.now.shards self.entry.now.turns
-                    engineers.items workers.items seats.items) }
+            |scope| -> Result<Back<L>, AllocError>
+                ensures { IfOk result (λ back. AreBack self.entry.now.desk.now.shards self.entry.now.turns
+                    engineers.items workers.items back.seats.items back.told.items) }
             { self.run_within(scope, engineers, workers) },
         )
     }
@@ -135,15 +151,15 @@ impl<
         scope: &'s Scope<'s, Q>,
         engineers: Vec<Engineer<L>>,
         workers: Vec<Seat<L>>,
-    ) -> Result<Vec<Seat<L>>, AllocError>
-        ensures { IfOk result (λ seats. AreBack self.now.desk.now.shards self.now.turns engineers.items workers.items
-            seats.items) }
+    ) -> Result<Back<L>, AllocError>
+        ensures { IfOk result (λ back. AreBack self.now.desk.now.shards self.now.turns engineers.items workers.items
+            back.seats.items back.told.items) }
     {
         let threads = Vec::with_capacity(self.alloc, engineers.len())?;
         let started = self.start_all(scope, engineers, threads);
         let seats = self.work_all(workers);
         match started {
-            Ok(threads) => join_all(self.rt, threads, seats),
+            Ok(threads) => join_all(self.rt, self.alloc, threads, seats),
             Err(error) => Err(error),
         }
     }
@@ -182,8 +198,8 @@ impl<
         ensures { IfOk result (λ thread. IsToPlay engineer thread) }
     {
         let promise = HasCalledScript(Snapshot::of(&engineer));
-        let job = move || -> Seat<L>
-            ensures { HasPlayed engineer result }
+        let job = move || -> Result<Played<L>, AllocError>
+            ensures { IfOk result (HasPlayed engineer) }
         { self.work(engineer) };
         Ok(scope.spawn_with(promise, job)?)
     }
@@ -195,18 +211,18 @@ impl<
         let teller = Teller {
             rt: self.rt,
             desk: self.desk,
-            told: self.told,
+            screen: self.screen,
         };
         run_workers(self.rt, self.desk, workers, &teller, self.turns)
     }
 
     /// An engineer's thread: all lines are called.
-    fn work(&self, engineer: Engineer<L>) -> Seat<L>
-        ensures { HasPlayed engineer result }
+    fn work(&self, engineer: Engineer<L>) -> Result<Played<L>, AllocError>
+        ensures { IfOk result (HasPlayed engineer) }
     {
-        let seat = play(self.rt, self.alloc, self.desk, self.told, engineer);
+        let played = play(self.rt, self.alloc, self.desk, engineer);
         self.end_one();
-        seat
+        played
     }
 
     /// An engineer has ended. No calls come after the last one.

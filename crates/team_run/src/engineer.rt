@@ -1,9 +1,8 @@
 //! An engineer: a script whose lines are called from a seat, from the first to the last.
 
-ghost use Rattle.std.specs.Prelude.{◌≡◌, ◌↔◌, Some, None, IsTrue, IfSome, if◌then◌else◌};
-ghost use Rattle.std.specs.Option.{option_map};
+ghost use Rattle.std.specs.Prelude.{◌≡◌, ◌↔◌, Some, None, IsTrue, IfOk, if◌then◌else◌};
 ghost use Rattle.room.specs.Books.{is_memory};
-ghost use Rattle.team_run.specs.Playing.{HasPlayed, IsCalled};
+ghost use Rattle.team_run.specs.Playing.{HasPlayed, IsCalled, IsLineCalled};
 
 use crate::told::{Told, ToldLine};
 use cell_engine::Cell;
@@ -14,12 +13,11 @@ use prefix_table::PrefixTable;
 use route_select::Selector;
 use script_files::{Line, Lines, Script};
 use sim_event::Reply;
-use std::alloc::Global;
+use std::alloc::{AllocError, Global};
 use std::marker::Model;
 use std::sync::Wait;
 use std::sync::ledger::Ledger;
 use std::thread::Threads;
-use watched::Sink;
 
 /// An engineer: the number of the file, from 1 on, its script, and the seat.
 #[derive(Drop)]
@@ -37,28 +35,48 @@ impl<L: Ledger> Model for Engineer<L> {
     ghost view = { λ e. record { file = e.file; script = e.script; seat = e.seat } };
 }
 
-/// Calls each line of the script in turn, and tells of those that made no call.
+/// An engineer who has called all lines: the seat, and the lines that made no call.
+#[derive(Drop)]
+pub(crate) struct Played<L: Ledger> {
+    pub(crate) seat: Seat<L>,
+    pub(crate) told: Told,
+}
+
+impl<L: Ledger> Model for Played<L> {
+    ghost use Rattle.team_run.specs.Playing.{PlayedBook};
+
+    ghost Value = { PlayedBook };
+
+    ghost view = { λ p. record { seat = p.seat; told = p.told } };
+}
+
+/// Calls each line of the script in turn, and takes down those that made no call. Where there is no memory for that it
+/// ends.
 pub(crate) fn play<
     S: Selector + Send + Sync + Drop,
     T: PrefixTable<Cell<S>> + Drop,
     L: Ledger,
-    E: Sink,
     R: Threads + Wait + Sync,
->(rt: &R, alloc: Global, desk: &Desk<S, T, L>, told: &Told<'_, E>, engineer: Engineer<L>) -> Seat<L>
-    ensures { HasPlayed engineer result }
+>(
+    rt: &R,
+    alloc: Global,
+    desk: &Desk<S, T, L>,
+    engineer: Engineer<L>,
+) -> Result<Played<L>, AllocError>
+    ensures { IfOk result (HasPlayed engineer) }
 {
     let Engineer {
         file,
         script,
         mut seat,
     } = engineer;
+    let mut told = Told::new(alloc);
     let mut lines = Lines::of(script.as_bytes());
     while let Some(line) = lines.next() {
-        if let Some(uncalled) = call(rt, alloc, desk, &mut seat, file, line) {
-            told.tell(rt, uncalled);
-        }
+        let uncalled = call(rt, alloc, desk, &mut seat, file, line);
+        told.add(uncalled)?;
     }
-    seat
+    Ok(Played { seat, told })
 }
 
 /// Calls the line of the file from the seat. Where that has to be told, as it makes no call: what is told of it.
@@ -75,8 +93,7 @@ fn call<
     file: u64,
     line: Line<'_>,
 ) -> Option<ToldLine>
-    ensures call { IsCalled seat.old line.entry.bytes.now (option_map (λ told. told.refusal) result) seat.new }
-    ensures place { IfSome result (λ told. (told.file ≡ file) × (told.line ≡ line.entry.number)) }
+    ensures { IsLineCalled file line.entry.number seat.old line.entry.bytes.now result seat.new }
 {
     let number = line.number;
     match call_line(rt, alloc, desk, seat, line.bytes) {

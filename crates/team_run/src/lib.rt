@@ -3,6 +3,7 @@
 
 mod crew;
 mod engineer;
+mod screen;
 mod team;
 mod told;
 

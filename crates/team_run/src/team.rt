@@ -6,13 +6,14 @@ ghost use Rattle.reference_machine.specs.Histories.{IsLegal};
 ghost use Rattle.room.specs.Books.{blank_seats};
 ghost use Rattle.room.specs.Closing.{AllAgree};
 ghost use Rattle.desk.specs.Desks.{IsDeskLedger};
-ghost use Rattle.team_run.specs.Playing.{AreBack, HasUnlike, IsOfBooks, IsOfPlay, engineers_of};
+ghost use Rattle.team_run.specs.Playing.{AreBack, HasUnlike, IsOfBooks, IsOfPlay, all_told, engineers_of};
 ghost use Rattle.team_run.specs.TeamRun.{AreOfScripts, AreOfWorkers, IsFrontOf, IsLogOf, IsPlayed, IsTeamRun};
 ghost use Rattle.watched.specs.Streams.{AppendsFront};
 
-use crate::crew::Crew;
+use crate::crew::{Back, Crew};
 use crate::engineer::Engineer;
-use crate::told::Told;
+use crate::screen::Screen;
+use crate::told::{Told, tell_all};
 use cell_engine::Cell;
 use desk::{Audit, Desk, OpenFault, Record, Seat};
 use log_text::write_log_in_threads;
@@ -61,11 +62,18 @@ struct ReadyTeam {
     scripts: Vec<Script>,
 }
 
+/// What a team has done: its history, and the lines that made no call, engineer by engineer.
+#[derive(Drop)]
+struct Report {
+    kept: Record,
+    told: Vec<Told>,
+}
+
 /// Runs a team on files, 1 to 64, each the script of an engineer, from the empty network, its machine under its keys: a
 /// thread calls the lines of each script in turn, and the workers' threads deliver what waits, until the engineers have
-/// ended and no message waits, or their turns have. The log of all calls goes to the output. What makes no call is told
-/// on the third stream, and so is a fault; its own failure is passed over. The exit status: 0 done, 3 a file was not
-/// read, 4 write fault, 5 want of memory, or a seat whose notes are not its calls.
+/// ended and no message waits, or their turns have. The log of all calls goes to the output. Once all have ended each line
+/// that makes no call is told on the third stream, file by file, and so is a fault; its own failure is passed over. The
+/// exit status: 0 done, 3 a file was not read, 4 write fault, 5 want of memory, or a seat whose notes are not its calls.
 pub fn run_team<
     S: Selector + Send + Sync + Drop,
     T: PrefixTable<Cell<S>> + Drop + Send,
@@ -91,8 +99,8 @@ pub fn run_team<
     requires hands { team.settings.workers ≤ 64 }
     requires calm { output.old.failed ≡ false }
     requires shown { output.old.held ≡ false }
-    ensures run { IsTeamRun files.old files.new team.settings.workers team.settings.turns output.old errors.old result
-        output.new errors.new }
+    ensures run { IsTeamRun files.old files.new team.settings.workers team.settings.turns team.settings.is_terminal
+        output.old errors.old result output.new errors.new }
 {
     let Team {
         blank,
@@ -131,28 +139,29 @@ fn play<
     requires hands { team.settings.workers ≤ 64 }
     requires calm { output.old.failed ≡ false }
     requires shown { output.old.held ≡ false }
-    ensures { IsPlayed team.scripts.items team.settings.workers team.settings.turns output.old result output.new
-        errors.new }
+    ensures { IsPlayed team.scripts.items team.settings.workers team.settings.turns team.settings.is_terminal
+        output.old errors.old result output.new errors.new }
 {
     let workers = team.settings.workers;
-    let record = match recorded::<S, T, L, E, R>(rt, alloc, team, errors) {
-        Ok(record) => record,
+    let Report { kept, told } = match recorded::<S, T, L, E, R>(rt, alloc, team, errors) {
+        Ok(report) => report,
         Err(fault) => return end_by(&fault, errors),
     };
-    match write_record(rt, alloc, workers, &record, output) {
+    tell_all(told.as_slice(), errors);
+    match write_record(rt, alloc, workers, &kept, output) {
         Ok(()) => SUCCESS,
         Err(fault) => end_by(&fault, errors),
     }
 }
 
-/// The record of a team on its scripts.
+/// What a team does on its scripts. At a terminal it is told there how far it is.
 fn recorded<
     S: Selector + Send + Sync + Drop,
     T: PrefixTable<Cell<S>> + Drop + Send,
     L: Ledger + Send + Sync,
     E: Sink + Send,
     R: Threads + Wait + Sync,
->(rt: &R, alloc: Global, team: ReadyTeam, errors: &mut Output<E>) -> Result<Record, RunFault>
+>(rt: &R, alloc: Global, team: ReadyTeam, errors: &mut Output<E>) -> Result<Report, RunFault>
     requires name { team.blank.name ≡ L.name }
     requires ledger { team.blank.parts ≡ L.parts }
     requires parts { team.blank.parts ≡ 256 }
@@ -160,10 +169,12 @@ fn recorded<
     requires most { vec_len team.scripts ≤ 64 }
     requires workers { 1 ≤ team.settings.workers }
     requires hands { team.settings.workers ≤ 64 }
-    ensures calls { IfOk result (AreOfScripts 0 team.scripts.items) }
-    ensures deliveries { IfOk result (AreOfWorkers (length team.scripts.items) team.settings.workers
-        team.settings.turns) }
+    ensures calls { IfOk result (λ report. AreOfScripts 0 team.scripts.items report.kept
+        (all_told report.told.items)) }
+    ensures deliveries { IfOk result (λ report. AreOfWorkers (length team.scripts.items) team.settings.workers
+        team.settings.turns report.kept) }
     ensures fault { IfErr result IsOfPlay }
+    ensures nothing_told { team.settings.is_terminal ≡ false → errors.new ≡ errors.old }
 {
     let ReadyTeam {
         blank,
@@ -177,23 +188,8 @@ fn recorded<
         drop(scripts);
         return Err(RunFault::NoMemory);
     };
-    let Ok(told) = Told::new(alloc, errors, settings.is_terminal) else {
-        drop((desk, seats, scripts));
-        return Err(RunFault::NoMemory);
-    };
-    let at_work = AtomicU64::new(u64::from(engineers));
-    let crew = Crew {
-        rt,
-        alloc,
-        desk: &desk,
-        told: &told,
-        at_work: &at_work,
-        turns: settings.turns,
-    };
-    let seats = at_desk(&crew, scripts, seats);
-    told.show();
-    match seats {
-        Ok(seats) => closed(rt, desk, seats),
+    match all_back(rt, alloc, &desk, settings, scripts, seats, errors) {
+        Ok(back) => closed(rt, desk, back),
         Err(_) => {
             drop(desk);
             Err(RunFault::NoMemory)
@@ -224,8 +220,67 @@ fn opened<S: Selector + Drop, T: PrefixTable<Cell<S>> + Drop, L: Ledger>(
     }
 }
 
-/// All threads at the desk, from the first call to the last. The seats come back: the workers', and then those of the
-/// engineers, from which their scripts were called.
+/// All threads at the desk. Where the errors go to a terminal it is told there how far they are.
+fn all_back<
+    'e,
+    S: Selector + Send + Sync + Drop,
+    T: PrefixTable<Cell<S>> + Drop + Send,
+    L: Ledger + Send + Sync,
+    E: Sink + Send,
+    R: Threads + Wait + Sync,
+>(
+    rt: &R,
+    alloc: Global,
+    desk: &Desk<S, T, L>,
+    settings: Settings,
+    scripts: Vec<Script>,
+    seats: Vec<Seat<L>>,
+    errors: &'e mut Output<E>,
+) -> Result<Back<L>, AllocError>
+    requires most { vec_len scripts ≤ 64 }
+    requires enough { vec_len scripts ≤ vec_len seats }
+    ensures nothing_told { settings.is_terminal ≡ false → errors.new ≡ errors.old }
+    ensures back { IfOk result (λ back. AreBack desk.now.shards settings.turns
+        (engineers_of 1 scripts.items seats.items) (drop (length scripts.items) seats.items)
+        back.seats.items back.told.items) }
+{
+    if settings.is_terminal {
+        at_terminal(rt, alloc, desk, settings.turns, scripts, seats, errors)
+    } else {
+        let screen: Option<&'e Screen<'e, E>> = None;
+        at_desk(rt, alloc, desk, settings.turns, scripts, seats, screen)
+    }
+}
+
+/// All threads at the desk, at a terminal.
+fn at_terminal<
+    S: Selector + Send + Sync + Drop,
+    T: PrefixTable<Cell<S>> + Drop + Send,
+    L: Ledger + Send + Sync,
+    E: Sink + Send,
+    R: Threads + Wait + Sync,
+>(
+    rt: &R,
+    alloc: Global,
+    desk: &Desk<S, T, L>,
+    turns: u64,
+    scripts: Vec<Script>,
+    seats: Vec<Seat<L>>,
+    errors: &mut Output<E>,
+) -> Result<Back<L>, AllocError>
+    requires most { vec_len scripts ≤ 64 }
+    requires enough { vec_len scripts ≤ vec_len seats }
+    ensures { IfOk result (λ back. AreBack desk.now.shards turns (engineers_of 1 scripts.items seats.items)
+        (drop (length scripts.items) seats.items) back.seats.items back.told.items) }
+{
+    let screen = Screen::new(errors);
+    let back = at_desk(rt, alloc, desk, turns, scripts, seats, Some(&screen));
+    screen.clear();
+    back
+}
+
+/// All threads at the desk, from the first call to the last. What comes back is the seats of the workers, and then those
+/// of the engineers, from which their scripts were called, but for the lines that are told.
 fn at_desk<
     S: Selector + Send + Sync + Drop,
     T: PrefixTable<Cell<S>> + Drop + Send,
@@ -233,16 +288,29 @@ fn at_desk<
     E: Sink + Send,
     R: Threads + Wait + Sync,
 >(
-    crew: &Crew<'_, '_, S, T, L, E, R>,
+    rt: &R,
+    alloc: Global,
+    desk: &Desk<S, T, L>,
+    turns: u64,
     scripts: Vec<Script>,
     seats: Vec<Seat<L>>,
-) -> Result<Vec<Seat<L>>, AllocError>
+    screen: Option<&Screen<'_, E>>,
+) -> Result<Back<L>, AllocError>
     requires most { vec_len scripts ≤ 64 }
     requires enough { vec_len scripts ≤ vec_len seats }
-    ensures { IfOk result (λ back. AreBack crew.now.desk.now.shards crew.now.turns
-        (engineers_of 1 scripts.items seats.items) (drop (length scripts.items) seats.items) back.items) }
+    ensures { IfOk result (λ back. AreBack desk.now.shards turns (engineers_of 1 scripts.items seats.items)
+        (drop (length scripts.items) seats.items) back.seats.items back.told.items) }
 {
-    let (engineers, workers) = seated(crew.alloc, scripts, seats)?;
+    let at_work = AtomicU64::new(scripts.len() as u64);
+    let (engineers, workers) = seated(alloc, scripts, seats)?;
+    let crew = Crew {
+        rt,
+        alloc,
+        desk,
+        screen,
+        at_work: &at_work,
+        turns,
+    };
     crew.run(engineers, workers)
 }
 
@@ -283,29 +351,30 @@ fn all_agree<S: Selector + Drop, T: PrefixTable<Cell<S>> + Drop, L: Ledger, R: W
     true
 }
 
-/// The history of the desk, where the notes of each seat are its calls in it.
+/// What the desk's room has recorded, where the notes of each seat are its calls in it, and what is told.
 fn closed<S: Selector + Drop, T: PrefixTable<Cell<S>> + Drop, L: Ledger, R: Wait>(
     rt: &R,
     desk: Desk<S, T, L>,
-    seats: Vec<Seat<L>>,
-) -> Result<Record, RunFault>
-    ensures agree { IfOk result (λ kept. AllAgree kept seats.items) }
-    ensures fault { IfErr result (IsOfBooks seats.items) }
+    back: Back<L>,
+) -> Result<Report, RunFault>
+    ensures kept { IfOk result (λ report. AllAgree report.kept back.seats.items
+        × (report.told.items ≡ back.told.items)) }
+    ensures fault { IfErr result (IsOfBooks back.seats.items) }
 {
+    let Back { seats, told } = back;
     if !all_agree(rt, &desk, seats.as_slice()) {
-        drop(desk);
-        drop(seats);
+        drop((desk, seats, told));
         return Err(RunFault::BookDiffers);
     }
     match desk.end().close_with_machine(seats) {
-        Ok((record, machine)) => {
+        Ok((kept, machine)) => {
             // Nothing of it is needed any more, and the process ends: to free its cells one by one would only take
             // time.
             forget(machine);
-            Ok(record)
+            Ok(Report { kept, told })
         }
         Err(fault) => {
-            drop(fault);
+            drop((fault, told));
             Err(RunFault::BookDiffers)
         }
     }

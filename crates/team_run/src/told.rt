@@ -1,16 +1,15 @@
 //! What is told of lines that made no call.
 
-ghost use Rattle.std.specs.Prelude.{◌≡◌};
-ghost use Rattle.team_run.specs.Told.{progress_text, told_text};
+ghost use Rattle.std.specs.Prelude.{◌≡◌, ◌++◌, [], map, option_to_list, OnOk};
 ghost use Rattle.reply_text.specs.Ending.{IsTold};
+ghost use Rattle.team_run.specs.Playing.{all_told};
+ghost use Rattle.team_run.specs.TeamRun.{AreTold, told_text};
 ghost use Rattle.watched.specs.Streams.{Writes};
 
-use boxcar::Vec;
-use desk::Progress;
 use net_conf::Refusal;
 use reply_text::{Part, write_each};
 use std::alloc::{AllocError, Global};
-use std::sync::{Mutex, Wait};
+use std::marker::Model;
 use watched::{Output, Sink, WriterFailed};
 
 /// A line that made no call. Files and lines count from 1.
@@ -21,83 +20,69 @@ pub(crate) struct ToldLine {
     pub(crate) refusal: Refusal,
 }
 
-/// The lines that made no call, from all engineers, in the order in which they were told; and how far the team is, on a
-/// line of the terminal, if there is one, that is written over.
+/// The lines of an engineer that made no call, in their order.
 #[derive(Drop)]
-pub(crate) struct Told<'a, E: Sink> {
+pub(crate) struct Told {
     lines: Vec<ToldLine>,
-    errors: Mutex<&'a mut Output<E>>,
-    is_terminal: bool,
 }
 
-impl<'a, E: Sink> Told<'a, E> {
+impl Model for Told {
+    ghost use Rattle.std.specs.Prelude.{List};
+    ghost use Rattle.team_run.specs.declared.told.ToldLine.{ToldLine};
+
+    ghost Value = { List ToldLine };
+
+    ghost view = { λ t. t.lines.items };
+}
+
+impl Told {
     /// Nothing is told yet.
-    pub(crate) fn new(
-        alloc: Global,
-        errors: &'a mut Output<E>,
-        is_terminal: bool,
-    ) -> Result<Self, AllocError> {
-        Ok(Told {
-            lines: Vec::new(alloc)?,
-            errors: Mutex::new(errors),
-            is_terminal,
-        })
-    }
-
-    /// Whether it is to be told how far the team is.
-    pub(crate) fn tells_progress(&self) -> bool
-        ensures { result ≡ self.now.is_terminal }
+    pub(crate) fn new(alloc: Global) -> Self
+        ensures { result ≡ [] }
     {
-        self.is_terminal
-    }
-
-    /// Writes how far the team is over what stands there. A failure to do so is passed over.
-    pub(crate) fn tell_progress<R: Wait>(&self, rt: &R, progress: Progress) {
-        let mut errors = self.errors.lock(rt);
-        let _ = write_progress(progress, &mut errors);
-    }
-
-    /// Takes a line down, or where there is no memory tells of it at once.
-    pub(crate) fn tell<R: Wait>(&self, rt: &R, line: ToldLine) {
-        if self.lines.push(rt, line).is_err() {
-            let mut errors = self.errors.lock(rt);
-            tell_at_once(line, &mut errors);
+        Told {
+            lines: Vec::new(alloc),
         }
     }
 
-    /// Writes all that was taken down, in place of how far the team is. A failure to do so is passed over.
-    pub(crate) fn show(self) {
-        let Told {
-            lines,
-            errors,
-            is_terminal,
-        } = self;
-        let errors = errors.into_inner();
-        if is_terminal {
-            let _ = errors.write(b"\r\x1b[K");
+    /// Takes a line down, if there is one.
+    pub(crate) fn add(&mut self, line: Option<ToldLine>) -> Result<(), AllocError>
+        ensures { OnOk result (self.new ≡ self.old ++ option_to_list line) }
+    {
+        if let Some(line) = line {
+            self.lines.push(line)?;
         }
-        for (_, line) in lines.iter() {
-            tell_at_once(*line, errors);
-        }
+        Ok(())
+    }
+
+    /// The lines.
+    fn lines(&self) -> &[ToldLine]
+        ensures { result.now ≡ self.now }
+    {
+        self.lines.as_slice()
     }
 }
 
-/// Writes how far the team is over what stands on the terminal's line.
-fn write_progress<W: Sink>(progress: Progress, output: &mut Output<W>) -> Result<(), WriterFailed>
-    ensures { Writes output.old (progress_text progress.calls progress.waiting) result output.new }
+/// Tells of all lines that were taken down.
+pub(crate) fn tell_all<E: Sink>(all: &[Told], errors: &mut Output<E>)
+    ensures { AreTold errors.old (map told_text (all_told all.now)) errors.new }
 {
-    let parts = [
-        Part::Bytes(b"\r\x1b[K"),
-        Part::Number(progress.calls),
-        Part::Bytes(b" calls, "),
-        Part::Number(progress.waiting),
-        Part::Bytes(b" messages wait"),
-    ];
-    write_each(&parts, output)
+    for told in all {
+        tell_each(told.lines(), errors);
+    }
+}
+
+/// Tells of each line in turn.
+fn tell_each<E: Sink>(lines: &[ToldLine], errors: &mut Output<E>)
+    ensures { AreTold errors.old (map told_text lines.now) errors.new }
+{
+    for line in lines {
+        tell(*line, errors);
+    }
 }
 
 /// Tells of the line. A failure to do so is passed over.
-fn tell_at_once<W: Sink>(told: ToldLine, errors: &mut Output<W>)
+fn tell<E: Sink>(told: ToldLine, errors: &mut Output<E>)
     ensures { IsTold errors.old (told_text told) errors.new }
 {
     let _ = write_told(told, errors);

@@ -7,5 +7,5 @@ returns g c =
     let old = c.args.streams.now in
     let new = c.run_words.new.streams in
     let P : ℕ → Type 0 = λ status. IsProgramRun (map string_bytes c.args.words.now)
-    old.input old.output old.errors status new.input new.output new.errors in
+    old.is_terminal old.input old.output old.errors status new.input new.output new.errors in
     subst P (sym c.from.ensures) c.run_words.ensures

@@ -6,11 +6,14 @@ use Rattle.team_run.proofs.crew.join_all.Goals as goal
 
 pub loop-thread-init : goal.loop-thread-init
 loop-thread-init g c =
-    let all : c.args.threads.items ≡ c.into_iter-thread-iterator.result.rest.items = search rules in (
+    let rest = c.into_iter-thread-iterator.result.rest.items in
+    let before = c.args.seats.items in
+    let all : c.args.threads.items ≡ rest = search rules in
+    let none : c.new-all.result.items ≡ [] = search rules in (
       tt,
       tt,
-      λ engineers to_play. coming_all engineers _ c.args.seats.items
-          (subst (λ ts. AreToPlay engineers ts) all to_play),
+      λ engineers to_play. subst (λ told. Coming engineers rest before before told) (sym none)
+          (coming_all engineers rest before (subst (λ ts. AreToPlay engineers ts) all to_play)),
     )
 
 pub loop-thread-preserved : goal.loop-thread-preserved
@@ -19,22 +22,28 @@ loop-thread-preserved g c =
     let rest = c.next.new.self.rest.items in
     let before = c.args.seats.items in
     let back = c.loop-thread.seats.items in
-    let seat = c.join.result in
+    let told = c.loop-thread.all.items in
+    let one = c.in_ok-seat.field-0 in
     let step : c.loop-thread.thread-iterator.rest.items ≡ thread ∷ rest = c.in-Some.ensures.steps.0 in
-    let pushed : c.push.new.self.items ≡ back ++ seat ∷ [] = search rules in (
+    let seats : c.push.new.self.items ≡ back ++ one.seat ∷ [] = search rules in
+    let lists : c.push-in-loop-thread.new.self.items ≡ told ++ one.told ∷ [] = search rules in (
       tt,
       tt,
       λ engineers all.
-          subst (λ ss. Coming engineers rest before ss) (sym pushed)
-          (coming_next engineers thread rest before back seat
-          (subst (λ ts. Coming engineers ts before back) step (c.loop-thread.invariant.2 engineers all))
-          c.join.ensures),
+          subst (λ ts. Coming engineers rest before c.push.new.self.items ts) (sym lists)
+          (subst (λ ss. Coming engineers rest before ss (told ++ one.told ∷ [])) (sym seats)
+          (coming_next engineers thread rest before back told one
+          (subst (λ ts. Coming engineers ts before back told) step (c.loop-thread.invariant.2 engineers all))
+          c.in_ok-seat.ensures)),
     )
 
 pub returns : goal.returns
 returns g c = λ shards turns workers engineers work all.
     let rest = c.loop-thread.thread-iterator.rest in
+    let before = c.args.seats.items in
+    let back = c.loop-thread.seats.items in
+    let told = c.loop-thread.all.items in
     let none : rest.items ≡ [] = nil_from_length rest.items (sym rest.ok.0 ∙ c.in-None.ensures.steps.0) in
-    coming_none _ engineers c.args.seats.items c.loop-thread.seats.items
-    (subst (λ ts. Coming engineers ts c.args.seats.items c.loop-thread.seats.items) none
-    (c.loop-thread.invariant.2 engineers all)) shards turns workers work
+    coming_none _ _ engineers before back told
+    (subst (λ ts. Coming engineers ts before back told) none (c.loop-thread.invariant.2 engineers all))
+    shards turns workers work

@@ -10,4 +10,4 @@ invariant-loop-thread g l =
     (goal.iterator-loop-thread g).can_next l.thread-iterator ×
     (goal.iterator-loop-thread g).is_finite l.thread-iterator ×
     ((engineers : List Engineering) → AreToPlay engineers l.fn.threads.items →
-    Coming engineers l.thread-iterator.rest.items l.fn.seats.items l.seats.items)
+    Coming engineers l.thread-iterator.rest.items l.fn.seats.items l.seats.items l.all.items)

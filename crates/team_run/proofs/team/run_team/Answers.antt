@@ -9,6 +9,6 @@ pub returns-in-Err : goal.returns-in-Err
 returns-in-Err g c =
     record {
       run = unread c.args.files.now c.read_scripts.new.files c.args.team.settings.workers c.args.team.settings.turns
-          c.args.output.now c.args.errors.now c.in-Err.fault c.end_by.result
+          c.args.team.settings.is_terminal c.args.output.now c.args.errors.now c.in-Err.fault c.end_by.result
           c.end_by.new.errors c.in-Err.ensures.fault c.end_by.ensures.told c.end_by.ensures.status;
     }

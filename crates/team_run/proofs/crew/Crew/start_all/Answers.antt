@@ -1,7 +1,7 @@
-use Rattle.std.proofs.Common.{rules, ◌≡◌, ◌+◌, ◌≤◌, ◌∷◌, ◌++◌, [], length, sym, ap, subst, ◌∙◌, append_assoc, arith}
+use Rattle.std.proofs.Common.{rules, ◌≡◌, ◌∷◌, ◌++◌, [], length, sym, ap, subst, ◌∙◌, append_assoc, arith}
 use Rattle.std.proofs.lemmas.List.{length_push}
 use Rattle.std.proofs.lemmas.Result.{on_ok_weaker}
-use Rattle.team_run.specs.EngineerThreads.{AreToPlay, IsToPlay}
+use Rattle.team_run.specs.EngineerThreads.{AreToPlay}
 use Rattle.team_run.proofs.Crews.{to_play_push}
 use Rattle.team_run.proofs.crew.Crew.start_all.Goals as goal
 

@@ -1,8 +1,8 @@
 use Rattle.std.proofs.Common.{◌≡◌, ◌∙◌, ◌++◌, sym, subst, List, ℕ, codes, append_assoc}
 use Rattle.std.specs.Fmt.{decimal}
 use Rattle.watched.specs.Streams.{Writes}
-use Rattle.team_run.specs.Told.{line_start}
-use Rattle.team_run.proofs.told.write_progress.Goals as goal
+use Rattle.team_run.specs.Screen.{line_start}
+use Rattle.team_run.proofs.screen.write_progress.Goals as goal
 
 -- however the pieces are put together
 grouped : (a b c d e : List ℕ) → a ++ (b ++ (c ++ (d ++ e))) ≡ ((((a ++ b) ++ c) ++ d) ++ e)
