@@ -27,7 +27,7 @@ def parser() -> argparse.ArgumentParser:
                "was; 2 a mistake, and nothing is written.")
     made.add_argument("paths", metavar="FILE", nargs="+", help="a router's file, or a folder of them")
     made.add_argument("-o", dest="out", metavar="FILE", help="write to this file, and not to standard output")
-    made.add_argument("--strict", action="store_true", help="take each line that is told for a mistake")
+    made.add_argument("--strict", action="store_true", help="treat each reported line as an error")
     return made
 
 

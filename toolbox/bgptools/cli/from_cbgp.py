@@ -22,7 +22,7 @@ def parser() -> argparse.ArgumentParser:
                       help="the scripts; - is standard input; a name that ends with .gz or .bz2 is unpacked")
     add_words(made)
     made.add_argument("-o", dest="out", metavar="FILE", help="write to this file, and not to standard output")
-    made.add_argument("--strict", action="store_true", help="take each line that is told for a mistake")
+    made.add_argument("--strict", action="store_true", help="treat each reported line as an error")
     return made
 
 

@@ -24,7 +24,7 @@ def parser() -> argparse.ArgumentParser:
                "was; 2 a mistake, and nothing is written.")
     made.add_argument("directory", metavar="DIRECTORY", help="the files, or a folder a router")
     made.add_argument("-o", dest="out", metavar="FILE", help="write to this file, and not to standard output")
-    made.add_argument("--strict", action="store_true", help="take each line that is told for a mistake")
+    made.add_argument("--strict", action="store_true", help="treat each reported line as an error")
     return made
 
 

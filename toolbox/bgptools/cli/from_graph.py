@@ -37,7 +37,7 @@ def parser() -> argparse.ArgumentParser:
                       help="this node originates the prefix")
     add_words(made)
     made.add_argument("-o", dest="out", metavar="FILE", help="write to this file, and not to standard output")
-    made.add_argument("--strict", action="store_true", help="take each line that is told for a mistake")
+    made.add_argument("--strict", action="store_true", help="treat each reported line as an error")
     return made
 
 
