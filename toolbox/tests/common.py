@@ -124,4 +124,4 @@ class Case(unittest.TestCase):
         """The text is the file's; UPDATE=1 writes the file instead."""
         if os.environ.get("UPDATE"):
             path.write_text(text)
-        self.assertEqual(path.read_text(), text)
+        self.assertEqual(path.read_text(), text, "%s: UPDATE=1 writes it anew, if this is right" % path)

@@ -13,8 +13,8 @@ ONLY_MEMORY = {"AllocError", "AllocFailed", "SpawnError"}
 SAME_ERROR = {"map", "as_ref", "as_mut", "copied", "cloned"}
 # Calls of the kit that fail only if memory runs out. Of others it is not known here.
 FOR_MEMORY = {"new", "with_capacity", "from_array", "from_slice", "collect", "insert", "insert_full", "push",
-              "push_str", "push_back", "extend", "extend_from_slice", "append", "reserve", "reserve_exact", "spawn",
-              "spawn_with"}
+              "push_shown", "push_str", "push_back", "extend", "extend_from_slice", "append", "reserve",
+              "reserve_exact", "spawn", "spawn_with"}
 Scope = Dict[str, Optional[Tuple[Nodes, Any]]]
 
 

@@ -238,7 +238,7 @@ _TABLES: Dict[str, Tuple[Sequence[str], Callable[[Table], Iterator[Sequence[str]
                     _other_rows("communities", "number", "name", "meaning")),
     "refusals": (("Number and name", "When", "Write instead"), _refusal_rows),
     "limits": (("What", "At most"), _limit_rows),
-    "exclusions": (("Reason", "The route is excluded since", "By"), _reason_rows("exclusions")),
+    "exclusions": (("Reason", "The route is excluded because", "By"), _reason_rows("exclusions")),
     "filters": (("Reason", "Another route has", "By"), _reason_rows("filters"))}
 
 

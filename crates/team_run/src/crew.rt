@@ -8,7 +8,7 @@ ghost use Rattle.team_run.specs.Playing.{AreBack, Engineering, HasPlayed};
 
 use crate::engineer::{Engineer, Played, play};
 use crate::screen::Screen;
-use crate::told::Told;
+use crate::told::{Told, ToldLine};
 use cell_engine::Cell;
 use desk::{Desk, Gate, Seat, run_workers};
 use prefix_table::PrefixTable;
@@ -54,7 +54,7 @@ impl<'a, 'e, S: Selector, T: PrefixTable<Cell<S>>, L: Ledger, E: Sink, R: Wait> 
 #[derive(Drop)]
 struct HasCalledScript<L: Ledger>(Snapshot<Engineer<L>>);
 
-impl<L: Ledger> Promise<Result<Played<L>, AllocError>> for HasCalledScript<L> {
+impl<'t, L: Ledger> Promise<Result<Played<'t, L>, AllocError>> for HasCalledScript<L> {
     ghost use Rattle.std.specs.Prelude.{IfOk};
     ghost use Rattle.team_run.specs.Playing.{HasPlayed};
 
@@ -62,25 +62,25 @@ impl<L: Ledger> Promise<Result<Played<L>, AllocError>> for HasCalledScript<L> {
 }
 
 /// The thread of an engineer.
-type EngineerThread<L> = PromisedHandle<Result<Played<L>, AllocError>, HasCalledScript<L>>;
+type EngineerThread<'t, L> = PromisedHandle<Result<Played<'t, L>, AllocError>, HasCalledScript<L>>;
 
 /// What comes back once all threads have ended: the seats of the workers and then of the engineers, and what each of the
 /// engineers tells.
 #[derive(Drop)]
-pub(crate) struct Back<L: Ledger> {
+pub(crate) struct Back<'t, L: Ledger> {
     pub(crate) seats: Vec<Seat<L>>,
-    pub(crate) told: Vec<Told>,
+    pub(crate) told: Vec<Told<'t>>,
 }
 
 /// What engineers hand back, once all have ended, behind the seats of the workers.
-fn join_all<L: Ledger, R: Threads>(
+fn join_all<'t, L: Ledger, R: Threads>(
     rt: &R,
     alloc: Global,
-    threads: Vec<EngineerThread<L>>,
+    threads: Vec<EngineerThread<'t, L>>,
     mut seats: Vec<Seat<L>>,
-) -> Result<Back<L>, AllocError>
+) -> Result<Back<'t, L>, AllocError>
     ensures { IfOk result (λ back. (shards turns : ℕ) (workers : List SeatBook) (engineers : List Engineering) →
-        AllWorked shards turns workers seats.items → AreToPlay engineers threads.items →
+        AllWorked shards turns workers seats.items → AreToPlay engineers threads.entry.items →
         AreBack shards turns engineers workers back.seats.items back.told.items) }
 {
     let mut all = Vec::new(alloc);
@@ -96,6 +96,7 @@ fn join_all<L: Ledger, R: Threads>(
 #[derive(Clone, Copy)]
 pub(crate) struct Crew<
     'a,
+    't,
     'e,
     S: Selector,
     T: PrefixTable<Cell<S>>,
@@ -106,6 +107,8 @@ pub(crate) struct Crew<
     pub(crate) rt: &'a R,
     pub(crate) alloc: Global,
     pub(crate) desk: &'a Desk<S, T, L>,
+    /// The lines that made no call, of all engineers.
+    pub(crate) all: &'t boxcar::Vec<ToldLine>,
     /// Where it is told how far they are, if anywhere.
     pub(crate) screen: Option<&'a Screen<'e, E>>,
     /// How many engineers have not ended.
@@ -116,13 +119,14 @@ pub(crate) struct Crew<
 
 impl<
     'a,
+    't,
     'e,
     S: Selector + Send + Sync + Drop,
     T: PrefixTable<Cell<S>> + Drop + Send,
     L: Ledger + Send + Sync,
     E: Sink + Send,
     R: Threads + Wait + Sync,
-> Crew<'a, 'e, S, T, L, E, R> {
+> Crew<'a, 't, 'e, S, T, L, E, R> {
     /// Starts a thread for each engineer, and those of the workers, and waits for all. The seats of all come back, of
     /// the workers first. An engineer whose thread cannot be started has ended; this is want of memory, as is none
     /// for the threads, the seats or what is told. All threads are started from one frame, so that this thread's stack does not grow
@@ -131,14 +135,14 @@ impl<
         &self,
         engineers: Vec<Engineer<L>>,
         workers: Vec<Seat<L>>,
-    ) -> Result<Back<L>, AllocError>
+    ) -> Result<Back<'t, L>, AllocError>
         ensures { IfOk result (λ back. AreBack self.now.desk.now.shards self.now.turns engineers.items workers.items
             back.seats.items back.told.items) }
     {
         thread::scope(
             thread::scope_env(),
             self.rt,
-            |scope| -> Result<Back<L>, AllocError>
+            |scope| -> Result<Back<'_, L>, AllocError>
                 ensures { IfOk result (λ back. AreBack self.entry.now.desk.now.shards self.entry.now.turns
                     engineers.items workers.items back.seats.items back.told.items) }
             { self.run_within(scope, engineers, workers) },
@@ -151,7 +155,7 @@ impl<
         scope: &'s Scope<'s, Q>,
         engineers: Vec<Engineer<L>>,
         workers: Vec<Seat<L>>,
-    ) -> Result<Back<L>, AllocError>
+    ) -> Result<Back<'t, L>, AllocError>
         ensures { IfOk result (λ back. AreBack self.now.desk.now.shards self.now.turns engineers.items workers.items
             back.seats.items back.told.items) }
     {
@@ -169,8 +173,8 @@ impl<
         &'s self,
         scope: &'s Scope<'s, Q>,
         engineers: Vec<Engineer<L>>,
-        mut threads: Vec<EngineerThread<L>>,
-    ) -> Result<Vec<EngineerThread<L>>, AllocError>
+        mut threads: Vec<EngineerThread<'t, L>>,
+    ) -> Result<Vec<EngineerThread<'t, L>>, AllocError>
         requires none { threads.items ≡ [] }
         requires room { vec_len engineers ≤ vec_capacity threads }
         ensures { IfOk result (λ threads. AreToPlay engineers.items threads.items) }
@@ -194,11 +198,11 @@ impl<
         &'s self,
         scope: &'s Scope<'s, Q>,
         engineer: Engineer<L>,
-    ) -> Result<EngineerThread<L>, AllocError>
+    ) -> Result<EngineerThread<'t, L>, AllocError>
         ensures { IfOk result (λ thread. IsToPlay engineer thread) }
     {
         let promise = HasCalledScript(Snapshot::of(&engineer));
-        let job = move || -> Result<Played<L>, AllocError>
+        let job = move || -> Result<Played<'_, L>, AllocError>
             ensures { IfOk result (HasPlayed engineer) }
         { self.work(engineer) };
         Ok(scope.spawn_with(promise, job)?)
@@ -217,10 +221,10 @@ impl<
     }
 
     /// An engineer's thread: all lines are called.
-    fn work(&self, engineer: Engineer<L>) -> Result<Played<L>, AllocError>
+    fn work(&self, engineer: Engineer<L>) -> Result<Played<'t, L>, AllocError>
         ensures { IfOk result (HasPlayed engineer) }
     {
-        let played = play(self.rt, self.alloc, self.desk, engineer);
+        let played = play(self.rt, self.alloc, self.desk, self.all, engineer);
         self.end_one();
         played
     }

@@ -37,12 +37,12 @@ impl<L: Ledger> Model for Engineer<L> {
 
 /// An engineer who has called all lines: the seat, and the lines that made no call.
 #[derive(Drop)]
-pub(crate) struct Played<L: Ledger> {
+pub(crate) struct Played<'t, L: Ledger> {
     pub(crate) seat: Seat<L>,
-    pub(crate) told: Told,
+    pub(crate) told: Told<'t>,
 }
 
-impl<L: Ledger> Model for Played<L> {
+impl<'t, L: Ledger> Model for Played<'t, L> {
     ghost use Rattle.team_run.specs.Playing.{PlayedBook};
 
     ghost Value = { PlayedBook };
@@ -53,6 +53,7 @@ impl<L: Ledger> Model for Played<L> {
 /// Calls each line of the script in turn, and takes down those that made no call. Where there is no memory for that it
 /// ends.
 pub(crate) fn play<
+    't,
     S: Selector + Send + Sync + Drop,
     T: PrefixTable<Cell<S>> + Drop,
     L: Ledger,
@@ -61,8 +62,9 @@ pub(crate) fn play<
     rt: &R,
     alloc: Global,
     desk: &Desk<S, T, L>,
+    all: &'t boxcar::Vec<ToldLine>,
     engineer: Engineer<L>,
-) -> Result<Played<L>, AllocError>
+) -> Result<Played<'t, L>, AllocError>
     ensures { IfOk result (HasPlayed engineer) }
 {
     let Engineer {
@@ -70,11 +72,11 @@ pub(crate) fn play<
         script,
         mut seat,
     } = engineer;
-    let mut told = Told::new(alloc);
+    let mut told = Told::new(alloc, all);
     let mut lines = Lines::of(script.as_bytes());
     while let Some(line) = lines.next() {
         let uncalled = call(rt, alloc, desk, &mut seat, file, line);
-        told.add(uncalled)?;
+        told.add(rt, uncalled)?;
     }
     Ok(Played { seat, told })
 }

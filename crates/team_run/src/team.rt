@@ -13,7 +13,7 @@ ghost use Rattle.watched.specs.Streams.{AppendsFront};
 use crate::crew::{Back, Crew};
 use crate::engineer::Engineer;
 use crate::screen::Screen;
-use crate::told::{Told, tell_all};
+use crate::told::{Told, ToldLine, tell_all};
 use cell_engine::Cell;
 use desk::{Audit, Desk, OpenFault, Record, Seat};
 use log_text::write_log_in_threads;
@@ -64,9 +64,9 @@ struct ReadyTeam {
 
 /// What a team has done: its history, and the lines that made no call, engineer by engineer.
 #[derive(Drop)]
-struct Report {
+struct Report<'t> {
     kept: Record,
-    told: Vec<Told>,
+    told: Vec<Told<'t>>,
 }
 
 /// Runs a team on files, 1 to 64, each the script of an engineer, from the empty network, its machine under its keys: a
@@ -143,7 +143,11 @@ fn play<
         output.old errors.old result output.new errors.new }
 {
     let workers = team.settings.workers;
-    let Report { kept, told } = match recorded::<S, T, L, E, R>(rt, alloc, team, errors) {
+    let Ok(all) = boxcar::Vec::new(alloc) else {
+        drop(team);
+        return end_by(&RunFault::NoMemory, errors);
+    };
+    let Report { kept, told } = match recorded::<S, T, L, E, R>(rt, alloc, team, &all, errors) {
         Ok(report) => report,
         Err(fault) => return end_by(&fault, errors),
     };
@@ -156,12 +160,19 @@ fn play<
 
 /// What a team does on its scripts. At a terminal it is told there how far it is.
 fn recorded<
+    't,
     S: Selector + Send + Sync + Drop,
     T: PrefixTable<Cell<S>> + Drop + Send,
     L: Ledger + Send + Sync,
     E: Sink + Send,
     R: Threads + Wait + Sync,
->(rt: &R, alloc: Global, team: ReadyTeam, errors: &mut Output<E>) -> Result<Report, RunFault>
+>(
+    rt: &R,
+    alloc: Global,
+    team: ReadyTeam,
+    all: &'t boxcar::Vec<ToldLine>,
+    errors: &mut Output<E>,
+) -> Result<Report<'t>, RunFault>
     requires name { team.blank.name ≡ L.name }
     requires ledger { team.blank.parts ≡ L.parts }
     requires parts { team.blank.parts ≡ 256 }
@@ -188,7 +199,7 @@ fn recorded<
         drop(scripts);
         return Err(RunFault::NoMemory);
     };
-    match all_back(rt, alloc, &desk, settings, scripts, seats, errors) {
+    match all_back(rt, alloc, &desk, all, settings, scripts, seats, errors) {
         Ok(back) => closed(rt, desk, back),
         Err(_) => {
             drop(desk);
@@ -222,6 +233,7 @@ fn opened<S: Selector + Drop, T: PrefixTable<Cell<S>> + Drop, L: Ledger>(
 
 /// All threads at the desk. Where the errors go to a terminal it is told there how far they are.
 fn all_back<
+    't,
     'e,
     S: Selector + Send + Sync + Drop,
     T: PrefixTable<Cell<S>> + Drop + Send,
@@ -232,11 +244,12 @@ fn all_back<
     rt: &R,
     alloc: Global,
     desk: &Desk<S, T, L>,
+    all: &'t boxcar::Vec<ToldLine>,
     settings: Settings,
     scripts: Vec<Script>,
     seats: Vec<Seat<L>>,
     errors: &'e mut Output<E>,
-) -> Result<Back<L>, AllocError>
+) -> Result<Back<'t, L>, AllocError>
     requires most { vec_len scripts ≤ 64 }
     requires enough { vec_len scripts ≤ vec_len seats }
     ensures nothing_told { settings.is_terminal ≡ false → errors.new ≡ errors.old }
@@ -245,15 +258,16 @@ fn all_back<
         back.seats.items back.told.items) }
 {
     if settings.is_terminal {
-        at_terminal(rt, alloc, desk, settings.turns, scripts, seats, errors)
+        at_terminal(rt, alloc, desk, all, settings.turns, scripts, seats, errors)
     } else {
         let screen: Option<&'e Screen<'e, E>> = None;
-        at_desk(rt, alloc, desk, settings.turns, scripts, seats, screen)
+        at_desk(rt, alloc, desk, all, settings.turns, scripts, seats, screen)
     }
 }
 
 /// All threads at the desk, at a terminal.
 fn at_terminal<
+    't,
     S: Selector + Send + Sync + Drop,
     T: PrefixTable<Cell<S>> + Drop + Send,
     L: Ledger + Send + Sync,
@@ -263,18 +277,19 @@ fn at_terminal<
     rt: &R,
     alloc: Global,
     desk: &Desk<S, T, L>,
+    all: &'t boxcar::Vec<ToldLine>,
     turns: u64,
     scripts: Vec<Script>,
     seats: Vec<Seat<L>>,
     errors: &mut Output<E>,
-) -> Result<Back<L>, AllocError>
+) -> Result<Back<'t, L>, AllocError>
     requires most { vec_len scripts ≤ 64 }
     requires enough { vec_len scripts ≤ vec_len seats }
     ensures { IfOk result (λ back. AreBack desk.now.shards turns (engineers_of 1 scripts.items seats.items)
         (drop (length scripts.items) seats.items) back.seats.items back.told.items) }
 {
     let screen = Screen::new(errors);
-    let back = at_desk(rt, alloc, desk, turns, scripts, seats, Some(&screen));
+    let back = at_desk(rt, alloc, desk, all, turns, scripts, seats, Some(&screen));
     screen.clear();
     back
 }
@@ -282,6 +297,7 @@ fn at_terminal<
 /// All threads at the desk, from the first call to the last. What comes back is the seats of the workers, and then those
 /// of the engineers, from which their scripts were called, but for the lines that are told.
 fn at_desk<
+    't,
     S: Selector + Send + Sync + Drop,
     T: PrefixTable<Cell<S>> + Drop + Send,
     L: Ledger + Send + Sync,
@@ -291,11 +307,12 @@ fn at_desk<
     rt: &R,
     alloc: Global,
     desk: &Desk<S, T, L>,
+    all: &'t boxcar::Vec<ToldLine>,
     turns: u64,
     scripts: Vec<Script>,
     seats: Vec<Seat<L>>,
     screen: Option<&Screen<'_, E>>,
-) -> Result<Back<L>, AllocError>
+) -> Result<Back<'t, L>, AllocError>
     requires most { vec_len scripts ≤ 64 }
     requires enough { vec_len scripts ≤ vec_len seats }
     ensures { IfOk result (λ back. AreBack desk.now.shards turns (engineers_of 1 scripts.items seats.items)
@@ -307,6 +324,7 @@ fn at_desk<
         rt,
         alloc,
         desk,
+        all,
         screen,
         at_work: &at_work,
         turns,
@@ -352,14 +370,14 @@ fn all_agree<S: Selector + Drop, T: PrefixTable<Cell<S>> + Drop, L: Ledger, R: W
 }
 
 /// What the desk's room has recorded, where the notes of each seat are its calls in it, and what is told.
-fn closed<S: Selector + Drop, T: PrefixTable<Cell<S>> + Drop, L: Ledger, R: Wait>(
+fn closed<'t, S: Selector + Drop, T: PrefixTable<Cell<S>> + Drop, L: Ledger, R: Wait>(
     rt: &R,
     desk: Desk<S, T, L>,
-    back: Back<L>,
-) -> Result<Report, RunFault>
-    ensures kept { IfOk result (λ report. AllAgree report.kept back.seats.items
-        × (report.told.items ≡ back.told.items)) }
-    ensures fault { IfErr result (IsOfBooks back.seats.items) }
+    back: Back<'t, L>,
+) -> Result<Report<'t>, RunFault>
+    ensures kept { IfOk result (λ report. AllAgree report.kept back.entry.seats.items
+        × (report.told.items ≡ back.entry.told.items)) }
+    ensures fault { IfErr result (IsOfBooks back.entry.seats.items) }
 {
     let Back { seats, told } = back;
     if !all_agree(rt, &desk, seats.as_slice()) {

@@ -1,15 +1,19 @@
 //! What is told of lines that made no call.
 
-ghost use Rattle.std.specs.Prelude.{◌≡◌, ◌++◌, [], map, option_to_list, OnOk};
+ghost use Rattle.std.specs.Prelude.{◌≡◌, ◌++◌, [], map, option_to_list, All, OnOk};
+ghost use Rattle.boxcar.specs.Table.{Shows, Where};
 ghost use Rattle.reply_text.specs.Ending.{IsTold};
+ghost use Rattle.team_run.specs.declared.told.ToldLine.{ToldLine};
 ghost use Rattle.team_run.specs.Playing.{all_told};
 ghost use Rattle.team_run.specs.TeamRun.{AreTold, told_text};
 ghost use Rattle.watched.specs.Streams.{Writes};
 
+use boxcar::Pushed;
 use net_conf::Refusal;
 use reply_text::{Part, write_each};
 use std::alloc::{AllocError, Global};
 use std::marker::Model;
+use std::sync::Wait;
 use watched::{Output, Sink, WriterFailed};
 
 /// A line that made no call. Files and lines count from 1.
@@ -20,64 +24,78 @@ pub(crate) struct ToldLine {
     pub(crate) refusal: Refusal,
 }
 
-/// The lines of an engineer that made no call, in their order.
+/// The lines of an engineer that made no call, in their order. They stand among those of all engineers; what is kept here
+/// is where.
 #[derive(Drop)]
-pub(crate) struct Told {
-    lines: Vec<ToldLine>,
+pub(crate) struct Told<'a> {
+    all: &'a boxcar::Vec<ToldLine>,
+    tokens: Vec<Pushed<ToldLine>>,
 }
 
-impl Model for Told {
-    ghost use Rattle.std.specs.Prelude.{List};
+impl<'a> Model for Told<'a> {
+    ghost use Rattle.std.specs.Prelude.{List, map, All};
+    ghost use Rattle.boxcar.specs.Table.{Shows, Where};
     ghost use Rattle.team_run.specs.declared.told.ToldLine.{ToldLine};
 
     ghost Value = { List ToldLine };
 
-    ghost view = { λ t. t.lines.items };
+    ghost view = { λ t. map (λ (p : Where ToldLine). p.value) t.tokens.items };
+
+    ghost invariant = { λ t. All (Shows t.all.now) t.tokens.items };
 }
 
-impl Told {
+impl<'a> Told<'a> {
     /// Nothing is told yet.
-    pub(crate) fn new(alloc: Global) -> Self
+    pub(crate) fn new(alloc: Global, all: &'a boxcar::Vec<ToldLine>) -> Self
         ensures { result ≡ [] }
     {
         Told {
-            lines: Vec::new(alloc),
+            all,
+            tokens: Vec::new(alloc),
         }
     }
 
     /// Takes a line down, if there is one.
-    pub(crate) fn add(&mut self, line: Option<ToldLine>) -> Result<(), AllocError>
+    pub(crate) fn add<R: Wait>(&mut self, rt: &R, line: Option<ToldLine>) -> Result<(), AllocError>
         ensures { OnOk result (self.new ≡ self.old ++ option_to_list line) }
     {
         if let Some(line) = line {
-            self.lines.push(line)?;
+            let Ok(token) = self.all.push_shown(rt, line) else {
+                return Err(AllocError);
+            };
+            self.tokens.push(token)?;
         }
         Ok(())
     }
 
-    /// The lines.
-    fn lines(&self) -> &[ToldLine]
-        ensures { result.now ≡ self.now }
+    /// Tells of each line in turn.
+    fn tell_lines<E: Sink>(&self, errors: &mut Output<E>)
+        ensures { AreTold errors.old (map told_text self.now) errors.new }
     {
-        self.lines.as_slice()
+        tell_each(self.all, self.tokens.as_slice(), errors);
     }
 }
 
 /// Tells of all lines that were taken down.
-pub(crate) fn tell_all<E: Sink>(all: &[Told], errors: &mut Output<E>)
+pub(crate) fn tell_all<E: Sink>(all: &[Told<'_>], errors: &mut Output<E>)
     ensures { AreTold errors.old (map told_text (all_told all.now)) errors.new }
 {
     for told in all {
-        tell_each(told.lines(), errors);
+        told.tell_lines(errors);
     }
 }
 
-/// Tells of each line in turn.
-fn tell_each<E: Sink>(lines: &[ToldLine], errors: &mut Output<E>)
-    ensures { AreTold errors.old (map told_text lines.now) errors.new }
+/// Tells in turn of each line that has a token.
+fn tell_each<E: Sink>(
+    all: &boxcar::Vec<ToldLine>,
+    tokens: &[Pushed<ToldLine>],
+    errors: &mut Output<E>,
+)
+    requires { All (Shows all.now) tokens.now }
+    ensures { AreTold errors.old (map told_text (map (λ (p : Where ToldLine). p.value) tokens.now)) errors.new }
 {
-    for line in lines {
-        tell(*line, errors);
+    for token in tokens {
+        tell(*all.value(token), errors);
     }
 }
 

@@ -21,13 +21,13 @@ def parser() -> argparse.ArgumentParser:
         "with bird.conf for each. A router is named by its router id, and a neighbor by any of its addresses is that "
         "router; one that no file belongs to is a virtual peer, to be fed. Two interfaces of OSPF in one subnet are a "
         "link, and so are the two ends of a session between two ASes. docs/reference/bird.md says what is taken over."),
-        epilog="What is not taken over is told on standard error, as `FILE:LINE: not taken over: ..` with what comes "
+        epilog="What is not taken over is reported on standard error, as `FILE:LINE: not taken over: ..` with what comes "
         "of it; the last line counts those that decide no route. "
                "Exit status: 0 nothing was left out that may decide a route; 1 the script is written, and something "
                "was; 2 a mistake, and nothing is written.")
     made.add_argument("paths", metavar="FILE", nargs="+", help="a router's file, or a folder of them")
     made.add_argument("-o", dest="out", metavar="FILE", help="write to this file, and not to standard output")
-    made.add_argument("--strict", action="store_true", help="take each line that is told for a mistake")
+    made.add_argument("--strict", action="store_true", help="treat each reported line as an error")
     return made
 
 

@@ -14,7 +14,7 @@ def parser() -> argparse.ArgumentParser:
         "Writes scripts of C-BGP as one script: nodes and links, weights, BGP routers with their peers, filters and "
         "networks, and what virtual peers tell. Several are read as one after another; what they include is read in "
         "its place. docs/reference/cbgp.md says what is taken over."),
-        epilog="What is not taken over is told on standard error, as `FILE:LINE: not taken over: ..` with what comes "
+        epilog="What is not taken over is reported on standard error, as `FILE:LINE: not taken over: ..` with what comes "
         "of it; the last line counts those that decide no route, as `print` and `show`. "
                "Exit status: 0 nothing was left out that may decide a route; 1 the script is written, and something "
                "was; 2 a mistake, and nothing is written.")
@@ -22,7 +22,7 @@ def parser() -> argparse.ArgumentParser:
                       help="the scripts; - is standard input; a name that ends with .gz or .bz2 is unpacked")
     add_words(made)
     made.add_argument("-o", dest="out", metavar="FILE", help="write to this file, and not to standard output")
-    made.add_argument("--strict", action="store_true", help="take each line that is told for a mistake")
+    made.add_argument("--strict", action="store_true", help="treat each reported line as an error")
     return made
 
 

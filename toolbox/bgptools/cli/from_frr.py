@@ -18,13 +18,13 @@ def parser() -> argparse.ArgumentParser:
         "A router is named by its router-id, and a neighbor by any of its addresses is that router; one that no file "
         "belongs to is a virtual peer, to be fed. "
         "Two interfaces in one subnet are a link. docs/reference/frr.md says what is taken over."),
-        epilog="What is not taken over is told on standard error, as `FILE:LINE: not taken over: ..` with what comes "
+        epilog="What is not taken over is reported on standard error, as `FILE:LINE: not taken over: ..` with what comes "
         "of it; the last line counts those that decide no route. "
                "Exit status: 0 nothing was left out that may decide a route; 1 the script is written, and something "
                "was; 2 a mistake, and nothing is written.")
     made.add_argument("directory", metavar="DIRECTORY", help="the files, or a folder a router")
     made.add_argument("-o", dest="out", metavar="FILE", help="write to this file, and not to standard output")
-    made.add_argument("--strict", action="store_true", help="take each line that is told for a mistake")
+    made.add_argument("--strict", action="store_true", help="treat each reported line as an error")
     return made
 
 

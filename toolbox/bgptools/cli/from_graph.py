@@ -17,7 +17,7 @@ def parser() -> argparse.ArgumentParser:
     made = argparse.ArgumentParser(prog="from-graph", description=(
         "Writes a graph in GraphML or GML, as the Topology Zoo has them, as a script: a router a node, all in one AS, "
         "a link for each two that edges join, sessions as a full mesh or by reflectors."),
-        epilog="What is not taken over is told on standard error, as `FILE:LINE: not taken over: ..`; the last line "
+        epilog="What is not taken over is reported on standard error, as `FILE:LINE: not taken over: ..`; the last line "
         "counts attributes that decide no route. A router's address is 10.0.h.l, by its place in the file. "
                "Exit status: 0 nothing was left out that may decide a route; 1 the script is written, and something "
                "was; 2 a mistake, and nothing is written.")
@@ -37,7 +37,7 @@ def parser() -> argparse.ArgumentParser:
                       help="this node originates the prefix")
     add_words(made)
     made.add_argument("-o", dest="out", metavar="FILE", help="write to this file, and not to standard output")
-    made.add_argument("--strict", action="store_true", help="take each line that is told for a mistake")
+    made.add_argument("--strict", action="store_true", help="treat each reported line as an error")
     return made
 
 

@@ -201,7 +201,9 @@ def _form_fault(words: List[str], form: Form) -> Optional[str]:
         if text:
             return text
     if not form.least <= len(words) <= len(wanted):
-        wrong = "a word is missing" if len(words) < form.least else "there is a word too many"
+        is_comment = len(words) > len(wanted) and words[len(wanted)].startswith("#")
+        wrong = ("a word is missing" if len(words) < form.least else "a comment needs a line of its own" if is_comment
+                 else "there is a word too many")
         return "%s: the command is `%s`" % (wrong, form.spelling)
     return None
 

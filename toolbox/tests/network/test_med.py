@@ -47,6 +47,7 @@ class Lines(unittest.TestCase):
         self.assertEqual([fault("med 9.0.0.1 " + setting) for setting in ("as", "always")], [None, None])
         for line, text in (("med", "a word is missing: the command is `med A as|always`"),
                            ("med 9.0.0.1", "a word is missing"), ("med 9.0.0.1 as x", "a word too many"),
+                           ("med 9.0.0.1 as # text", "a comment needs a line of its own"),
                            ("med 9.0.0.1 on", "`on` where `as or always` is expected"),
                            ("med 9.0.0.1 Always", "`Always` where"), ("med as 9.0.0.1", "`as` is not an address"),
                            ("nomed 9.0.0.1", "no command `nomed`")):

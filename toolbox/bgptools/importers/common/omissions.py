@@ -58,7 +58,7 @@ class LeftOut:
         self._print(what)
         decides = any(each.decides for each in self.told)
         if is_strict and decides:
-            print("nothing is written, since --strict takes each line that is told for a mistake", file=sys.stderr)
+            print("nothing is written, since --strict treats each reported line as an error", file=sys.stderr)
             return WRONG
         check_length(len(lines), file)
         output.write("".join(line + "\n" for line in lines), out)

@@ -212,6 +212,6 @@ def report(network: Network, told: List[Told], is_strict: bool) -> int:
                                                         key=lambda each: (-each[1], each[0].lower())))),
                                                         file=sys.stderr)
     if is_strict and any(each.decides for each in told):
-        print("nothing is written, since --strict takes each line that is told for a mistake", file=sys.stderr)
+        print("nothing is written, since --strict treats each reported line as an error", file=sys.stderr)
         return WRONG
     return CHANGED if any(each.decides for each in told) else 0
