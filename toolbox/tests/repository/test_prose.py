@@ -119,7 +119,7 @@ class Rules(Case):
             with self.subTest(text=text):
                 self.assertEqual(len(self.findings(text + "\n")), 1)
         for text in ("in front", "a shortest-path tree", "a table cell", "a web site", "they look at it", "`the room`",
-                     "joined by dots", "what an importer takes over", "written anew", "## settle"):
+                     "joined by dots", "what an importer takes over", "written anew", "## converge"):
             with self.subTest(text=text):
                 self.assertEqual(self.findings(text + "\n"), [])
 
