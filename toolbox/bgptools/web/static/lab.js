@@ -139,7 +139,7 @@ async function entered(told) {
 
 function going(workers) {
   now.isGoing = workers.is_going;
-  at("settle").textContent = now.isGoing ? "Pause (s)" : "Settle (s)";
+  at("settle").textContent = now.isGoing ? "Pause (s)" : "Converge (s)";
 }
 
 async function catchUp() {
