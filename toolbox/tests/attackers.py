@@ -117,7 +117,7 @@ class Server:
     def program(self):
         """The number of the program that has the shared network."""
         found = [number for number, words in self.children().items()
-                 if number in self.own_children() and words[-1:] == [b"script"]]
+                 if number in self.own_children() and words[-1:] == [b"converge"]]
         if len(found) != 1:
             raise AssertionError("there are %d shared programs" % len(found))
         return found[0]
@@ -125,7 +125,7 @@ class Server:
     def workers(self):
         """How many worker processes it has: of the pool, and of `what-if` and `replay` where it runs these itself."""
         own = self.own_children()
-        return sum(number in own and words[-1:] != [b"script"] for number, words in self.children().items())
+        return sum(number in own and words[-1:] != [b"converge"] for number, words in self.children().items())
 
     def memory(self):
         """Its resident memory in bytes."""

@@ -57,7 +57,7 @@ class Edited(Keys):
     def test_the_command_that_was_meant(self):
         told = "    -- there is no command `rooter`\n    -- did you mean `router`?\n"
         self.assertIn(told, self.type("rooter 1.0.0.1 1\n"))
-        self.assertIn("    -- did you mean `converge`?\n", self.type("setle\n"))
+        self.assertIn("    -- did you mean `converge`?\n", self.type("convrge\n"))
         self.assertNotIn("did you mean", self.type("zzzzzz\n"))
         self.assertNotIn("did you mean", self.type("router 1.0.0.1\n"))
 

@@ -653,7 +653,7 @@ class Ends(Pooled):
         with self.stand_in("noted, noting = os.pipe()", "if os.fork() == 0:", "    os.setsid()",
                            "    if os.fork() == 0:", "        note()", "        os.write(noting, b'.')",
                            "        time.sleep(600)", "    os._exit(0)", "os.read(noted, 1)",
-                           "os.execv(%r, ['bgpsim', 'script'])" % os.environ["PROGRAM"]):
+                           "os.execv(%r, ['bgpsim', 'converge'])" % os.environ["PROGRAM"]):
             self.assertEqual(await pool.what_if(WORKER, ring(3), []), UNCHANGED)
             numbers = await self.noted(4)
         self.assertEqual([is_gone(each) for each in numbers].count(False), 2)
