@@ -116,6 +116,10 @@ class Server:
             self.process.stdout.close()
 
 
+# In place of the status of a request that was cut off.
+CUT_OFF = 0
+
+
 class Peer:
     """What a client sent and heard. `calls` are those that were answered, in order, with their replies."""
 
@@ -123,6 +127,8 @@ class Peer:
         self.asked: Dict[int, Request] = {}
         self.calls: List[Tuple[str, List[str]]] = []
         self.owed = 0
+        # How many requests were cut off, of which nobody knows whether they were taken.
+        self.cut_off = 0
         self.number = 1000
         self.seat: Optional[int] = None
         self.name, self.token = "", ""
@@ -238,7 +244,7 @@ class Client(Peer):
             self.read(0.1)
         while self.read(0.01):
             pass
-        if self.owed < 0:
+        if self.owed < -self.cut_off:
             raise Fault("there are %d answers more than requests" % -self.owed)
 
     def close(self) -> None:
@@ -300,17 +306,18 @@ class Page(Client):
     def send(self, content: bytes) -> None:
         status = self._status(content)
         self.owed += status == 200
+        self.cut_off += status == CUT_OFF
         if status not in (200, 429) and len(content) <= 1 << 16 and self.is_open and self.page:
             raise Fault("a request of a page has the status %d" % status)
 
     def _status(self, content: bytes) -> int:
-        """The status of a request. What is too long the server may refuse and close before all of it is sent."""
+        """The status of a request. The server may close before all of a long one is sent, or its status is read."""
         try:
             return self.server.get("do?page=" + self.page, self.key, content)[0]
         except (BrokenPipeError, ConnectionResetError):
             if len(content) <= 1 << 16:
                 raise
-            return 413
+            return CUT_OFF
 
     def ask(self, request: Request) -> Dict[str, Any]:
         if not self.page:
