@@ -337,7 +337,7 @@ class Server:
         """How many bytes the log has."""
         return os.path.getsize(self.log)
 
-    def child(self, word: str = "script") -> int:
+    def child(self, word: str = "converge") -> int:
         """The number of the process of the program, or of a worker; 0 where there is none."""
         path = "/proc/%d/task/%d/children" % (self.process.pid, self.process.pid)
         for each in pathlib.Path(path).read_text().split():

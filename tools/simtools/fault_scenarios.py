@@ -126,9 +126,17 @@ def unread() -> None:
 
 # Programs
 
+def running(scene: Scene) -> int:
+    """The number of the process of the program. Wrong where there is none: a signal to 0 goes to this tool itself."""
+    child = scene.server.child()
+    check(child > 0, "no program is found")
+    return child
+
+
 def killed(count: int) -> None:
     """The program is killed so often, and each time a request is made."""
     with scened(SOCKET, "share") as scene:
+        os.kill(running(scene), signal.SIGKILL)
         for _ in range(count):
             child = scene.server.child()
             if child:
@@ -143,6 +151,7 @@ def killed(count: int) -> None:
 def killed_again() -> None:
     """The program is killed again and again, also while it is run anew."""
     with scened(SOCKET, "share") as scene:
+        running(scene)
         stop = threading.Event()
 
         def kill() -> None:
@@ -169,7 +178,7 @@ def killed_again() -> None:
 def stopped() -> None:
     """The program is stopped for a while: requests wait for it, and are answered."""
     with scened(SOCKET, "share") as scene:
-        child = scene.server.child()
+        child = running(scene)
         os.kill(child, signal.SIGSTOP)
         line = scene.metric()
         number, _ = scene.actor.send("call", line=line)
@@ -184,8 +193,8 @@ def unstarted() -> None:
     """The program ended, and cannot be run anew for a while."""
     with scened(SOCKET, "share") as scene:
         for error in ("EAGAIN", "ENOMEM", "EMFILE"):
-            scene.server.command("fail", what="spawn", error=error, path="script", times=1000)
-            os.kill(scene.server.child(), signal.SIGKILL)
+            scene.server.command("fail", what="spawn", error=error, path="converge", times=1000)
+            os.kill(running(scene), signal.SIGKILL)
             start = scene.server.size()
             for client in (scene.actor, scene.other, scene.actor):
                 told = errs(client.request("call", line=scene.metric()))
