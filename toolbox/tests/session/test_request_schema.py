@@ -55,3 +55,11 @@ class Schemas(Case):
         for word, (_, fields) in fuzz_requests.VALID.items():
             for _ in range(20):
                 self.assertTrue(judge.is_valid({"id": 1, "do": word, **fields(draw)}), word)
+
+    def test_jsonschema_names_no_field_of_a_request_that_is_wrong(self):
+        """So requests are checked by their table, which says what is expected in which field."""
+        errors = list(jsonschema.Draft4Validator(request_schema()).iter_errors({"do": "script", "from": "0"}))
+        self.assertEqual([(list(each.path), each.message.partition("} ")[2]) for each in errors],
+                         [([], "is not valid under any of the given schemas")])
+        with self.assertRaisesRegex(Malformed, "`from` of the request `script` is expected to be a whole number"):
+            request_in(b'{"do": "script", "from": "0"}')
