@@ -79,9 +79,11 @@ def told(lost: Cut, names_all: bool = False) -> List[str]:
     what = "%d ASes and %d relationships" % (lost.ases, lost.relationships)
     if not lost.changes_routes:
         return ["note: %s are left out, which decide no route of the other ASes" % what]
-    full = ", %d of these since an AS has at most %d sessions" % (lost.between, MOST_SESSIONS) if lost.between else ""
-    lines = ["not taken over: %s%s; routes can differ from those of the whole graph, and --about ORIGINS writes a part "
-             "in which they do not" % (what, full)]
+    if lost.between:
+        what = "%s, %d of them" % (what, lost.between) if lost.ases else "%d relationships," % lost.between
+        what += " since an AS has at most %d sessions" % MOST_SESSIONS
+    lines = ["not taken over: %s; routes can differ from those of the whole graph, and --about ORIGINS writes a part "
+             "in which they do not" % what]
     if lost.orphans:
         shown = lost.orphans if names_all else lost.orphans[:SHOWN]
         left = len(lost.orphans) - len(shown)
