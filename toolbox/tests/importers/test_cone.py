@@ -257,12 +257,12 @@ class OnTheProgram(Case):
         self.assertEqual(ran.stderr, "%s: AS 4 chooses %s; in the larger part %s\n%s: 1 of 4 ASes choose other routes in the "
                          "whole graph\n" % (path, route % (3, 3, 3), route % (2, 2, 2), path))
 
-    def test_no_larger_part_has_room(self):
+    def test_no_larger_part_fits(self):
         path = self.file("rel", "1|2|-1\n1|3|-1\n1|4|-1\n")
         with mock.patch.object(cone_script, "MOST_ROUTERS", 2):
             ran = inside("from-as-rel", path, "--about", "2", "--observers", "2", "--check", "3")
         self.assertEqual((ran.returncode, ran.stderr), (
-            2, "%s: --check: a network has no room for a larger cone; name fewer observers\n" % path))
+            2, "%s: --check: no larger cone fits into a network; name fewer observers\n" % path))
 
     def test_a_leak(self):
         """AS 4 buys from 1 and 2, which are peers; the origin 3 buys from 1. AS 5 buys from 2.
@@ -322,7 +322,7 @@ class Script(Case):
         numbers = [tuple(map(int, router.split("."))) for _, router in sorted(routers_of(asns).items())]
         self.assertEqual(numbers, sorted(set(numbers)))
 
-    def test_a_part_that_a_network_has_no_room_for(self):
+    def test_a_part_that_does_not_fit_into_a_network(self):
         many = "".join("1|%d|-1\n%d|%d|-1\n" % (asn, asn, asn + 5000) for asn in range(2, 5000))
         star = "".join("1|%d|-1\n" % asn for asn in range(2, 300))
         for text, words, said in (
