@@ -106,14 +106,15 @@ def _kind(chosen: argparse.Namespace) -> Type[Writer]:
 def _is_exact(graph: Graph, interest: Interest, writer: Writer, chosen: argparse.Namespace) -> bool:
     """Whether the program finds the same routes in a larger part; it is told which, or what differs."""
     larger = larger_than(graph, interest, writer.known, _kind(chosen), int(chosen.check))
-    found = differences(writer, _kind(chosen)(larger, writer.origins, graph.known, interest.leaks))
-    for each in found[:cuts.SHOWN]:
+    inside, outside = differences(writer, _kind(chosen)(larger, writer.origins, graph.known, interest.leaks))
+    for each in (inside + outside)[:cuts.SHOWN]:
         print("%s: AS %d chooses %s; in the larger part %s" % (
-            graph.name, each.asn, "; ".join(each.here[:-1]) or "none", "; ".join(each.there[:-1]) or "none"), file=sys.stderr)
+            graph.name, each.asn, "; ".join(each.here) or "none", "; ".join(each.there) or "none"), file=sys.stderr)
     where = "the whole graph" if larger is graph.known else "a part of %d ASes" % len(larger.customers)
-    print("%s: %d of %d ASes choose other routes in %s" % (
-        graph.name, len(found), len(writer.known.customers), where), file=sys.stderr)
-    return not found
+    count = len(writer.known.customers)
+    print("%s: checked with %s: %d of %d ASes choose other routes, and %d of %d that are decided afterwards" % (
+        graph.name, where, len(inside), count, len(outside), len(larger.customers) - count), file=sys.stderr)
+    return not inside and not outside
 
 
 def _write(writer: Writer, graph: Graph, chosen: argparse.Namespace, advice: str) -> None:

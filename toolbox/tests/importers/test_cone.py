@@ -186,14 +186,18 @@ class Internet(Case):
 class OnTheProgram(Case):
     """What from-as-rel writes, converged."""
 
+    ties = 0
+
     def tables(self, path):
-        """What each AS of a script chooses for each prefix, without communities."""
+        """What each AS of a script chooses for each prefix, without communities. Where addresses decide is counted."""
         with Run() as run:
             run.play(read(str(path)))
             self.assertTrue(run.converge().is_converged)
             routers = run.network.routers()
             replies = run.ask("routes " + router for router in routers)
             asns = [run.network.nodes[router].asn for router in routers]
+            asked = ["why %s %s" % (router, prefix) for router in routers for prefix in run.network.prefixes]
+            self.ties += sum(line.endswith(" ident") for reply in run.ask(asked) for line in reply)
         return {asn: [line.split(" comms=")[0] for line in reply[:-1]] for asn, reply in zip(asns, replies)}
 
     def made(self, text, *words):
@@ -210,7 +214,7 @@ class OnTheProgram(Case):
 
     def test_routes_are_those_of_the_whole_graph(self):
         """Also for a second origin of a prefix, with ties; ASes above 65535 among them."""
-        left_out = ties = 0
+        left_out = 0
         for seed in range(6):
             kinds = drawn(1000 + seed)
             known, text = graph_of(kinds), "".join("%d|%d|%d\n" % (*pair, kind) for pair, kind in kinds.items())
@@ -232,9 +236,8 @@ class OnTheProgram(Case):
                     chosen = {asn: self.paths(lines, prefix) for asn, lines in found.items()}
                     self.assertEqual(decisions(known, chosen),
                                      {asn: self.paths(lines, prefix) for asn, lines in expected.items()})
-            ties += sum(lines != [] for lines in expected.values())
         self.assertGreater(left_out, 200)
-        self.assertGreater(ties, 200)
+        self.assertGreater(self.ties, 100)
 
     def prefix(self, script, at):
         return [line.split(" ")[2] for line in script.split("\n") if line.startswith("origin ")][at]
@@ -242,20 +245,24 @@ class OnTheProgram(Case):
     def test_check_compares_with_the_whole_graph_or_a_larger_part(self):
         text = "\n".join(relations(300)) + "\n"
         _, said = self.made(text, "--about", "299,150", "--observers", "298", "--check", "1")
-        self.assertRegex(said, r"rel: 0 of \d\d ASes choose other routes in the whole graph\n$")
+        self.assertRegex(said, r"rel: checked with the whole graph: 0 of (\d\d) ASes choose other routes, and 0 of 2\d\d that "
+                               r"are decided afterwards\n$")
         with mock.patch.object(cone_script, "MOST_ROUTERS", 200), mock.patch.object(cone_script, "MORE", 32):
             _, said = self.made(text, "--about", "299,150", "--observers", "298", "--check", "1", "--communities")
-        self.assertRegex(said, r"rel: 0 of \d\d ASes choose other routes in a part of \d\d ASes\n$")
+        self.assertRegex(said, r"rel: checked with a part of \d\d ASes: 0 of \d\d ASes choose other routes, and 0 of \d\d "
+                               r"that are decided afterwards\n$")
 
     def test_check_finds_what_is_wrong(self):
-        """A cone that lacks a provider of the observer: AS 4 chose 2, and has 3 left."""
-        path = self.file("rel", "1|2|-1\n1|3|-1\n2|4|-1\n3|4|-1\n1|5|-1\n")
+        """A cone that lacks a provider of the observer: AS 4 chose 2, and has 3 left. So has 6, which buys from 4."""
+        path = self.file("rel", "1|2|-1\n1|3|-1\n2|4|-1\n3|4|-1\n1|5|-1\n4|6|-1\n")
         with mock.patch.object(from_as_rel, "cone_of", lambda graph, _: induced(graph.known, {1, 3, 4, 5})):
             ran = inside("from-as-rel", path, "--about", "5", "--observers", "4", "--check", "3")
         route = "100.0.4.0/24 from 10.0.%d.1 path=%d,1,5 origin=igp next=10.0.%d.1 med=- pref=80 oid=- clusters=-"
         self.assertEqual((ran.returncode, ran.stdout), (3, ""))
-        self.assertEqual(ran.stderr, "%s: AS 4 chooses %s; in the larger part %s\n%s: 1 of 4 ASes choose other routes in the "
-                         "whole graph\n" % (path, route % (3, 3, 3), route % (2, 2, 2), path))
+        self.assertEqual(ran.stderr, (
+            "{0}: AS 4 chooses {1}; in the larger part {2}\n{0}: AS 6 chooses 100.0.4.0/24 path=4,3,1,5; in the larger part "
+            "100.0.4.0/24 path=4,2,1,5\n{0}: checked with the whole graph: 1 of 4 ASes choose other routes, and 1 of 2 that are "
+            "decided afterwards\n").format(path, route % (3, 3, 3), route % (2, 2, 2)))
 
     def test_no_larger_part_fits(self):
         path = self.file("rel", "1|2|-1\n1|3|-1\n1|4|-1\n")
@@ -265,15 +272,18 @@ class OnTheProgram(Case):
             2, "%s: --check: no larger cone fits into a network; name fewer observers\n" % path))
 
     def test_a_leak(self):
-        """AS 4 buys from 1 and 2, which are peers; the origin 3 buys from 1. AS 5 buys from 2.
+        """AS 4 buys from 1 and 2, which are peers; the origin 3 buys from 1, 5 and 6 buy from 2. AS 6 is a peer of 4.
 
         2 gets the leak from its customer 4 and prefers it to the peer's route: so does 5 below it. The exact cone has
-        4, though it is above neither the origin nor the observer."""
-        text = "1|2|0\n1|3|-1\n1|4|-1\n2|4|-1\n2|5|-1\n1|6|-1\n"
+        4, though it is above neither the origin nor the observer. AS 6, decided afterwards, prefers its peer 4."""
+        text = "1|2|0\n1|3|-1\n1|4|-1\n2|4|-1\n2|5|-1\n2|6|-1\n6|4|0\n"
+        known = graph_of(kinds_of(text.split("\n")[:-1]))
         for words in ([], ["--communities"]):
-            made, _ = self.made(text, "--about", "3", "--observers", "5", "--leak", "4", "--check", "1", *words)
+            made, said = self.made(text, "--about", "3", "--observers", "5", "--leak", "4", "--check", "1", *words)
+            self.assertIn("0 of 5 ASes choose other routes, and 0 of 1 that are", said)
             found = {asn: self.paths(lines, "100.0.2.0/24") for asn, lines in self.tables(made).items()}
             self.assertEqual(found, {1: (3,), 2: (4, 1, 3), 3: (), 4: (1, 3), 5: (2, 4, 1, 3)})
+            self.assertEqual(decisions(known, found, [4])[6], (4, 1, 3))
             made, _ = self.made(text, "--about", "3", "--observers", "5", *words)
             found = {asn: self.paths(lines, "100.0.2.0/24") for asn, lines in self.tables(made).items()}
             self.assertEqual(found, {1: (3,), 2: (1, 3), 3: (), 5: (2, 1, 3)})

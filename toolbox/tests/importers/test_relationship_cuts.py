@@ -49,6 +49,13 @@ class Cuts(Case):
         self.assertEqual((status, said.split(";")[0]), (1, "rel: not taken over: 99 ASes and 142 relationships, 43 of them "
                                                            "since an AS has at most 256 sessions"))
 
+    def test_peerings_without_room(self):
+        """Of 299 peerings of AS 1 it keeps 256. No AS loses a provider."""
+        status, _, said = self.made("".join("1|%d|0\n" % asn for asn in range(2, 301)))
+        self.assertEqual((status, said), (1, (
+            "rel: not taken over: 43 relationships, since an AS has at most 256 sessions; routes can differ from those of the "
+            "whole graph, and --about ORIGINS writes a part in which they do not\n")))
+
     def test_a_core_that_decides_no_route(self):
         """All that is left out are customers, which originate nothing here."""
         for words in ([], ["--strict"]):

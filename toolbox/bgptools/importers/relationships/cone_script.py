@@ -5,15 +5,17 @@ from __future__ import annotations
 import hashlib
 import os
 import textwrap
-from typing import Dict, List, NamedTuple, Optional, Sequence, Type
+from typing import Dict, List, NamedTuple, Optional, Sequence, Tuple, Type
 
 from ...convergence.run import Run, not_converged
+from ...program import replies
 from ...program.language import escaped
 from ...program.line_count import MOST_LINES
 from ...program.mistakes import Mistake
 from ...program.script import lines_of
 from .caida import MOST_ROUTERS, MOST_SESSIONS, Relations, Writer
 from .cone import cone
+from .stub_decision import Path, decisions
 
 # So many observers more has the larger cone that one is compared with, where the whole graph is too large.
 MORE = 512
@@ -81,13 +83,6 @@ def _listed(asns: Sequence[int]) -> str:
     return "AS " + ", ".join(map(str, sorted(asns)))
 
 
-class Difference(NamedTuple):
-    """An AS whose routes differ, as lines of `routes`: in the cone, and in the larger graph."""
-    asn: int
-    here: List[str]
-    there: List[str]
-
-
 def larger_than(graph: Graph, interest: Interest, part: Relations, kind: Type[Writer], seed: int) -> Relations:
     """What a cone is compared with: the whole graph where it fits into a network, else a cone of more observers.
 
@@ -126,7 +121,37 @@ def tables(writer: Writer) -> Dict[int, List[str]]:
         return dict(zip(asns, run.ask("routes " + writer.routers[asn] for asn in asns)))
 
 
-def differences(part: Writer, larger: Writer) -> List[Difference]:
-    """The ASes of a cone that choose otherwise in a larger graph, by the program."""
+class Difference(NamedTuple):
+    """An AS whose routes differ, as lines of `routes`, or prefixes with paths: by the cone, and in the larger graph."""
+    asn: int
+    here: List[str]
+    there: List[str]
+
+
+def differences(part: Writer, larger: Writer) -> Tuple[List[Difference], List[Difference]]:
+    """The ASes that choose otherwise in a larger graph, by the program: those of a cone, and those outside of it, which
+    are decided afterwards."""
     here, there = tables(part), tables(larger)
-    return [Difference(asn, here[asn], there[asn]) for asn in here if here[asn] != there[asn]]
+    inside = [Difference(asn, here[asn][:-1], there[asn][:-1]) for asn in here if here[asn] != there[asn]]
+    outside: Dict[int, Difference] = {}
+    for origin in part.origins:
+        prefix = part.prefixes[origin]
+        chosen = {asn: _path(reply, prefix) for asn, reply in here.items()}
+        for asn, path in decisions(larger.known, chosen, part.leaks).items():
+            found = _path(there[asn], prefix)
+            if asn not in here and path != found:
+                outside.setdefault(asn, Difference(asn, [], []))
+                outside[asn].here.append(_shown(prefix, path))
+                outside[asn].there.append(_shown(prefix, found))
+    return inside, list(outside.values())
+
+
+def _path(reply: List[str], prefix: str) -> Optional[Path]:
+    """The path of the route to a prefix, in the reply to `routes`."""
+    found = replies.routes(reply).get(prefix)
+    text = found.attributes.path if found else ""
+    return None if found is None else () if text == "-" else tuple(map(int, text.split(",")))
+
+
+def _shown(prefix: str, path: Optional[Path]) -> str:
+    return "%s %s" % (prefix, "none" if path is None else "path=" + (",".join(map(str, path)) or "-"))
