@@ -28,7 +28,7 @@ def parser() -> argparse.ArgumentParser:
     made.add_argument("--about", metavar="AS,..", help=(
         "write the part that decides the routes of these origins exactly: the ASes above them and above the observers"))
     made.add_argument("--observers", metavar="AS,..", help=(
-        "with --about, the ASes whose routes matter, or `all`: then only ASes without customers are left out (all)"))
+        "with --about, the ASes whose routes matter, or `all`: then ASes are left out that decide nothing for the others (all)"))
     made.add_argument("--check", metavar="SEED", help=(
         "with --about, compare all routes with those of the whole graph, or of a larger part by this number, on the program"))
     made.add_argument("--leak", metavar="AS,..", help="these ASes advertise all their routes to peers and providers")
@@ -95,7 +95,7 @@ def _cone(graph: Graph, leaks: List[int], chosen: argparse.Namespace) -> int:
     writer = _kind(chosen)(part, origins, graph.known, leaks, head(graph, interest, part))
     if chosen.check is not None and not _is_exact(graph, interest, writer, chosen):
         return DISAGREES
-    _write(writer, graph, chosen, "--observers names fewer ASes")
+    _write(writer, graph, chosen, "--communities has fewer, and so have fewer ASes in --observers")
     return 0
 
 

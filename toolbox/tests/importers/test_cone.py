@@ -55,9 +55,9 @@ def with_none(asns, chosen):
 class Theorem(Case):
     """On 200 graphs, one prefix from up to three origins."""
 
-    def some(self, seed):
+    def some(self, first, count=100):
         """Graphs, with what all of their ASes choose, and lots."""
-        for seed in range(seed, seed + 100):
+        for seed in range(first, first + count):
             kinds, lots = drawn(seed), random.Random(-seed)
             asns = asns_in(kinds)
             origins = lots.sample(asns, lots.choice((1, 2, 2, 3)))
@@ -93,6 +93,23 @@ class Theorem(Case):
                 self.assertEqual(decisions(known, self.chosen_in(part, origins)), with_none(asns, whole))
             sellers = {one for (one, _), kind in kinds.items() if kind}
             self.assertEqual(set(cone(known, origins).customers), sellers | set(origins))
+
+    def test_all_observers_of_a_graph_that_is_too_large(self):
+        """A network of few ASes, down to those above the origins: more are decided afterwards."""
+        between = 0
+        for kinds, asns, origins, whole, lots in self.some(400, 60):
+            known = graph_of(kinds)
+            least = len(ancestors(known, origins))
+            most = lots.randrange(least, len(cone(known, origins).customers) + 1)
+            graph, interest = cone_script.Graph(known, "rel", ""), cone_script.Interest(origins)
+            with mock.patch.object(cone_script, "MOST_ROUTERS", most):
+                part = cone_script.cone_of(graph, interest)
+            with mock.patch.object(cone_script, "MOST_ROUTERS", least - 1):
+                self.assertRaisesRegex(Mistake, "name fewer origins", cone_script.cone_of, graph, interest)
+            self.assertTrue(least <= len(part.customers) <= most)
+            self.assertEqual(decisions(known, self.chosen_in(part, origins)), with_none(asns, whole))
+            between += least < len(part.customers) < len(cone(known, origins).customers)
+        self.assertGreater(between, 10)
 
     def test_peerings_that_nothing_crosses(self):
         """None has more than three neighbours here, where only such peerings make them more."""
@@ -300,7 +317,7 @@ class Script(Case):
         self.assertEqual(made.stdout.split("\n")[1:8], [
             "# graph: a.gz, SHA-256 " + hashlib.sha256(path.read_bytes()).hexdigest(),
             "# origins: AS 4, 80000", "# leaks: AS 2", "# observers: AS 2",
-            "# 5 ASes and 4 relationships stand for 7 and 6: all that is above an origin or an observer",
+            "# 5 ASes and 4 relationships stand for 7 and 6: what is above an origin or an observer",
             "# Exact for prefixes of these origins: a route comes from a customer or a peer only if an origin is",
             "#   below it, else from a provider; and these are all here. See docs/explanation/cone.md"])
 
@@ -336,12 +353,14 @@ class Script(Case):
         many = "".join("1|%d|-1\n%d|%d|-1\n" % (asn, asn, asn + 5000) for asn in range(2, 5000))
         star = "".join("1|%d|-1\n" % asn for asn in range(2, 300))
         for text, words, said in (
-                (many, ["--about", "2"], "the cone has 4999 ASes, and a network has at most 4096; name some observers"),
+                (many, ["--about", "2", "--observers", ",".join(map(str, range(2, 5000)))],
+                 "the cone has 4999 ASes, and a network has at most 4096; name fewer observers\n"),
                 (star, ["--about", ",".join(map(str, range(2, 260)))],
-                 "the cone has 258 neighbours of AS 1, and a router has at most 256 sessions; name some observers")):
+                 "the cone has 258 neighbours of AS 1, and a router has at most 256 sessions; name fewer origins\n")):
             ran = inside("from-as-rel", self.file("rel", text), *words)
             self.assertEqual((ran.returncode, ran.stdout), (2, ""))
             self.assertIn(said, ran.stderr)
+        self.assertEqual(inside("from-as-rel", self.file("rel", many), "--about", "2").stdout.count("\nrouter "), 2)
 
     def test_mistakes(self):
         path = self.file("rel", "1|2|-1\n2|3|-1\n3|1|-1\n4|5|-1\n1|5|0\n")

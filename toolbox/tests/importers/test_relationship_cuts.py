@@ -61,8 +61,8 @@ class Cuts(Case):
         for words in ([], ["--strict"]):
             status, script, said = self.made(STAR, "--core", "3", *words)
             self.assertEqual((status, script.count("\nrouter ")), (0, 3))
-            self.assertEqual(said, "rel: note: 396 ASes and 396 relationships are left out, which decide no route of the other "
-                                   "ASes\n")
+            self.assertEqual(said, "rel: note: 396 ASes and 396 relationships are left out, which decide no route of the "
+                                   "others\n")
         self.assertEqual(self.made("1|2|-1\n1|3|-1\n", "--core", "3")[2], "")
 
     def test_more_ases_than_a_network_has(self):
@@ -70,6 +70,19 @@ class Cuts(Case):
         self.assertEqual((status, script, said), (2, "", (
             "rel: it has 4999 ASes, and a network has at most 4096: --about ORIGINS keeps those that decide the routes of "
             "some, --core 4096 those with the most relationships\n")))
+
+    def test_more_relationships_than_a_network_has_links(self):
+        """200 ASes that are peers of one another have 19,900. A route crosses 199 of them."""
+        mesh = "".join("%d|%d|0\n" % (one, other) for other in range(2, 201) for one in range(1, other))
+        self.assertEqual(self.made(mesh), (2, "", (
+            "rel: 19900 relationships of 200 ASes, and a network has at most 16384 links: --about ORIGINS keeps those that "
+            "decide the routes of some, --core N those of the N ASes with the most\n")))
+        observers = ",".join(map(str, range(1, 201)))
+        for words in ([], ["--observers", observers]):
+            status, script, said = self.made(mesh, "--about", "7", *words)
+            self.assertEqual((status, said), (0, ""))
+            self.assertEqual(script.count("\nlink "), 199 if words else 0)
+        self.assertEqual(self.made(mesh, "--core", "100")[0], 0)
 
     def test_routes_are_those_of_the_whole_graph_unless_it_is_told(self):
         """On 100 graphs, whichever AS of the core originates."""

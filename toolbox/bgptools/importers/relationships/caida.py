@@ -8,7 +8,7 @@ from ...program.language import number, show_address
 from ...program.mistakes import Mistake
 from ..common.sources import MOST_UNPACKED, lines_in
 
-MOST_ROUTERS, MOST_SESSIONS = 4096, 256
+MOST_ROUTERS, MOST_LINKS, MOST_SESSIONS = 4096, 16384, 256
 # So much is read before the ASes with the most relationships are taken: twice what the world has.
 MOST_TIES, MOST_ASES = 2000000, 200000
 FORM = "PROVIDER|CUSTOMER|-1 or PEER|PEER|0 is expected, each an AS number"
@@ -50,6 +50,11 @@ class Relations:
 
     def degree(self, asn: int) -> int:
         return len(self.customers[asn]) + len(self.providers[asn]) + len(self.peers[asn])
+
+
+def counted(count: int, noun: str) -> str:
+    """So many ASes or relationships, in words: `1 AS`, `2 ASes`, `1 relationship`."""
+    return "%d %s%s" % (count, noun, "" if count == 1 else "es" if noun == "AS" else "s")
 
 
 def relations(path: str, most: int = MOST_UNPACKED, digest: Any = None) -> Relations:

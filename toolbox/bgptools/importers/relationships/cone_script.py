@@ -13,8 +13,8 @@ from ...program.language import escaped
 from ...program.line_count import MOST_LINES
 from ...program.mistakes import Mistake
 from ...program.script import lines_of
-from .caida import MOST_ROUTERS, MOST_SESSIONS, Relations, Writer
-from .cone import cone
+from .caida import MOST_LINKS, MOST_ROUTERS, MOST_SESSIONS, Relations, Writer, counted
+from .cone import ancestors, cone, without_idle_peerings, without_leaves
 from .stub_decision import Path, decisions
 
 # So many observers more has the larger cone that one is compared with, where the whole graph is too large.
@@ -42,15 +42,20 @@ class Graph(NamedTuple):
 
 
 def cone_of(graph: Graph, interest: Interest) -> Relations:
-    """The cone; raises Mistake where providers are a loop, and where it does not fit into a network."""
+    """The cone; where all ASes are observers, without more of those that can be decided afterwards, until it fits into
+    a network. Raises Mistake where providers are a loop, and where it does not fit."""
     try:
         found = cone(graph.known, interest.sources, interest.observers)
     except Mistake as mistake:
         raise Mistake(mistake.text, graph.name) from None
+    above, count = ancestors(graph.known, interest.sources), 0
+    while interest.observers is None and too_large(found) and count != len(found.customers):
+        count = len(found.customers)
+        found = without_idle_peerings(without_leaves(found, above), above)
     fault = too_large(found)
     if fault:
-        raise Mistake("the cone has %s; name %s observers: all others can be decided in Python afterwards" % (
-            fault, "some" if interest.observers is None else "fewer"), graph.name)
+        raise Mistake("the cone has %s; name fewer %s" % (
+            fault, "origins" if interest.observers is None else "observers"), graph.name)
     return found
 
 
@@ -58,6 +63,8 @@ def too_large(known: Relations) -> str:
     """Why a graph does not fit into a network; empty where it does."""
     if len(known.customers) > MOST_ROUTERS:
         return "%d ASes, and a network has at most %d" % (len(known.customers), MOST_ROUTERS)
+    if len(known.ties) > MOST_LINKS:
+        return "%d relationships, and a network has at most %d links" % (len(known.ties), MOST_LINKS)
     crowded = [asn for asn in known.asns() if known.degree(asn) > MOST_SESSIONS]
     return "" if not crowded else "%d neighbours of AS %d, and a router has at most %d sessions" % (
         known.degree(crowded[0]), crowded[0], MOST_SESSIONS)
@@ -68,10 +75,11 @@ def head(graph: Graph, interest: Interest, part: Relations) -> List[str]:
     told = ["origins: " + _listed(interest.origins)]
     if interest.leaks:
         told.append("leaks: " + _listed(interest.leaks))
-    told += ["observers: " + ("all ASes; those without customers are decided by their providers and peers alone"
-                              if interest.observers is None else _listed(interest.observers)),
-             "%d ASes and %d relationships stand for %d and %d: all that is above an origin or an observer" % (
-                 len(part.customers), len(part.ties), len(graph.known.customers), len(graph.known.ties)),
+    told += ["observers: " + ("all ASes; those left out are decided by their providers and peers alone" if
+                              interest.observers is None else _listed(interest.observers)),
+             "%s and %s stand for %d and %d: what is above an origin or an observer" % (
+                 counted(len(part.customers), "AS"), counted(len(part.ties), "relationship"),
+                 len(graph.known.customers), len(graph.known.ties)),
              "Exact for prefixes of these origins: a route comes from a customer or a peer only if an origin is below "
              "it, else from a provider; and these are all here. See docs/explanation/cone.md"]
     name = escaped(os.path.basename(graph.name))
