@@ -1,6 +1,6 @@
-"""The cone of origins and observers: its ASes choose what they choose in the whole graph, and so do those that are decided
-afterwards. What they choose is computed here without the cone, decided again and again, in three passes, or by the
-program on the whole graph."""
+"""The cone of origins and observers: its ASes choose what they choose in the whole graph, and so do those that are
+decided afterwards. What they choose is computed here without the cone, decided again and again, in three passes, or by
+the program on the whole graph."""
 import collections
 import gzip
 import hashlib
@@ -13,7 +13,7 @@ from relations import fixpoint, internet, kinds_of, relations
 from bgptools.cli import from_as_rel
 from bgptools.convergence.run import Run
 from bgptools.importers.relationships import cone_script
-from bgptools.importers.relationships.caida import Marking, Relations, routers_of
+from bgptools.importers.relationships.caida import Marking, Relations, Writer, routers_of
 from bgptools.importers.relationships.cone import ancestors, cone, induced, without_idle_peerings
 from bgptools.importers.relationships.stub_decision import decisions, downwards
 from bgptools.program.mistakes import Mistake
@@ -259,15 +259,46 @@ class OnTheProgram(Case):
     def prefix(self, script, at):
         return [line.split(" ")[2] for line in script.split("\n") if line.startswith("origin ")][at]
 
+    def changes(self, writer, lots):
+        """Commands that prepend, filter, keep routes inside an AS by NO_EXPORT, and fail links, at ASes of a part."""
+        for one, other, kind in sorted(writer.known.ties):
+            ends = [writer.routers[one], writer.routers[other]]
+            here, there = ends if lots.random() < 0.5 else ends[::-1]
+            what = lots.choice(("fail", "prepend", "filter", "keep", "", "", "", ""))
+            if what == "fail":
+                yield "fail %s %s" % (here, there)
+            elif what == "filter":
+                yield "clear %s %s in" % (here, there)
+                yield "rule %s %s in path %d deny" % (here, there, lots.choice(writer.known.asns()))
+                yield "rule %s %s in any permit pref=%d" % (
+                    here, there, 90 if not kind else 100 if here == ends[0] else 80)
+            elif what:
+                yield "rule %s %s out any permit %s" % (
+                    here, there, "prepend=2" if what == "prepend" else "add=4294967041")
+
+    def test_policies_that_keep_it_exact(self):
+        """The same changes to the whole graph and to the cone: ASes of the cone choose the same routes."""
+        changed = 0
+        for seed in range(6):
+            known, lots = graph_of(drawn(2000 + seed)), random.Random(seed)
+            origins, observers = lots.sample(known.asns(), 2), lots.sample(known.asns(), 8)
+            part, whole = (Writer(each, origins, known) for each in (cone(known, origins, observers), known))
+            changes = list(self.changes(part, lots))
+            before, expected, found = (self.tables(self.file("a.bgp", "".join(line + "\n" for line in lines))) for lines in (
+                whole.lines(), whole.lines() + changes, part.lines() + changes))
+            self.assertEqual(found, {asn: expected[asn] for asn in part.known.asns()})
+            changed += sum(before[asn] != expected[asn] for asn in found)
+        self.assertGreater(changed, 50)
+
     def test_check_compares_with_the_whole_graph_or_a_larger_part(self):
         text = "\n".join(relations(300)) + "\n"
         _, said = self.made(text, "--about", "299,150", "--observers", "298", "--check", "1")
-        self.assertRegex(said, r"rel: checked with the whole graph: 0 of (\d\d) ASes choose other routes, and 0 of 2\d\d that "
-                               r"are decided afterwards\n$")
+        self.assertRegex(said, r"rel: checked with the whole graph: 0 of (\d\d) ASes choose other routes, and 0 of "
+                               r"2\d\d that are decided afterwards\n$")
         with mock.patch.object(cone_script, "MOST_ROUTERS", 200), mock.patch.object(cone_script, "MORE", 32):
             _, said = self.made(text, "--about", "299,150", "--observers", "298", "--check", "1", "--communities")
-        self.assertRegex(said, r"rel: checked with a part of \d\d ASes: 0 of \d\d ASes choose other routes, and 0 of \d\d "
-                               r"that are decided afterwards\n$")
+        self.assertRegex(said, r"rel: checked with a part of \d\d ASes: 0 of \d\d ASes choose other routes, and 0 of "
+                               r"\d\d that are decided afterwards\n$")
 
     def test_check_finds_what_is_wrong(self):
         """A cone that lacks a provider of the observer: AS 4 chose 2, and has 3 left. So has 6, which buys from 4."""
@@ -277,9 +308,9 @@ class OnTheProgram(Case):
         route = "100.0.4.0/24 from 10.0.%d.1 path=%d,1,5 origin=igp next=10.0.%d.1 med=- pref=80 oid=- clusters=-"
         self.assertEqual((ran.returncode, ran.stdout), (3, ""))
         self.assertEqual(ran.stderr, (
-            "{0}: AS 4 chooses {1}; in the larger part {2}\n{0}: AS 6 chooses 100.0.4.0/24 path=4,3,1,5; in the larger part "
-            "100.0.4.0/24 path=4,2,1,5\n{0}: checked with the whole graph: 1 of 4 ASes choose other routes, and 1 of 2 that are "
-            "decided afterwards\n").format(path, route % (3, 3, 3), route % (2, 2, 2)))
+            "{0}: AS 4 chooses {1}; in the larger part {2}\n{0}: AS 6 chooses 100.0.4.0/24 path=4,3,1,5; in the larger "
+            "part 100.0.4.0/24 path=4,2,1,5\n{0}: checked with the whole graph: 1 of 4 ASes choose other routes, and 1 "
+            "of 2 that are decided afterwards\n").format(path, route % (3, 3, 3), route % (2, 2, 2)))
 
     def test_no_larger_part_fits(self):
         path = self.file("rel", "1|2|-1\n1|3|-1\n1|4|-1\n")
@@ -365,13 +396,14 @@ class Script(Case):
     def test_mistakes(self):
         path = self.file("rel", "1|2|-1\n2|3|-1\n3|1|-1\n4|5|-1\n1|5|0\n")
         for words, said in (
-                (["--about", "3"], "%s: AS 2 > 3 > 1 > 2, each a provider of the next one, are a loop, so that no cone is "
-                                   "exact: write who of two is the provider the other way, or 0 for peers" % path),
+                (["--about", "3"], "%s: AS 2 > 3 > 1 > 2, each a provider of the next one, are a loop, so that no cone "
+                                   "is exact: write who of two is the provider the other way, or 0 for peers" % path),
                 (["--about", "5,9"], "%s: --about 5,9: AS 9 is not among those of the network" % path),
-                (["--about", "5", "--observers", "x"], "%s: --observers x: AS x is not among those of the network" % path),
+                (["--about", "5", "--observers", "x"],
+                 "%s: --observers x: AS x is not among those of the network" % path),
                 (["--leak", "7"], "%s: --leak 7: AS 7 is not among those of the network" % path),
-                (["--about", "5", "--core", "3"], "--about names the origins, and takes the place of --core and --origins: "
-                                                  "write it without them"),
+                (["--about", "5", "--core", "3"], "--about names the origins, and takes the place of --core and "
+                                                  "--origins: write it without them"),
                 (["--observers", "5"], "--observers and --check go with --about: write --about ORIGINS, too"),
                 (["--about", "5", "--check", "x"], "--check x: a number is expected, 0 to 4294967295")):
             ran = inside("from-as-rel", path, *words)

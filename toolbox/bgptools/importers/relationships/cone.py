@@ -72,8 +72,10 @@ def cone(known: Relations, origins: Iterable[int], observers: Optional[Iterable[
     Each of its ASes chooses for a prefix that some of the origins originate what it chooses in the whole graph. An AS
     that leaks is named among the origins. Without observers all ASes are kept but those that have no customers and are
     no origins: these are decided afterwards (`stub_decision`). Where an AS has more than 256 neighbours, or the cone
-    more than 16,384 relationships, peerings that no route of the origins crosses are left out. Raises Mistake where an AS is not in the graph, and where providers
-    are a loop: then more than one stable state may exist, or none."""
+    more than 16,384 relationships, peerings that no route of the origins crosses are left out.
+
+    Raises Mistake where an AS is not in the graph, and where providers are a loop: then more than one stable state may
+    exist, or none."""
     sources: List[int] = list(origins)
     watched = [asn for asn in known.customers if known.customers[asn]] if observers is None else list(observers)
     above = ancestors(known, sources)

@@ -118,8 +118,8 @@ def _fits(graph: Graph, interest: Interest, known: Relations, kind: Type[Writer]
 
 
 def tables(writer: Writer) -> Dict[int, List[str]]:
-    """The routes that each AS chooses once the program has converged, as lines of `routes`; raises Mistake where it does
-    not converge."""
+    """The routes that each AS chooses once the program has converged, as replies to `routes`; raises Mistake where it
+    does not converge."""
     with Run(tries_others=True) as run:
         run.play(lines_of("".join(line + "\n" for line in writer.lines()).encode("utf-8"), "the script"))
         done = run.converge()

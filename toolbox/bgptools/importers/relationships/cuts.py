@@ -22,8 +22,8 @@ def within_limits(whole: Relations, path: str) -> Relations:
     """All ASes, with the relationships that 256 sessions an AS leave room for, those of the greater neighbours first;
     raises Mistake where the ASes, or these relationships, are too many for a network."""
     if len(whole.customers) > MOST_ROUTERS:
-        raise Mistake("it has %d ASes, and a network has at most %d: --about ORIGINS keeps those that decide the routes "
-                      "of some, --core %d those with the most relationships" % (
+        raise Mistake("it has %d ASes, and a network has at most %d: --about ORIGINS keeps those that decide the "
+                      "routes of some, --core %d those with the most relationships" % (
                           len(whole.customers), MOST_ROUTERS, MOST_ROUTERS), path)
     kept: List[Tie] = []
     count = dict.fromkeys(whole.customers, 0)
@@ -33,8 +33,8 @@ def within_limits(whole: Relations, path: str) -> Relations:
             count[tie[0]] += 1
             count[tie[1]] += 1
     if len(kept) > MOST_LINKS:
-        raise Mistake("%d relationships of %d ASes, and a network has at most %d links: --about ORIGINS keeps those that "
-                      "decide the routes of some, --core N those of the N ASes with the most" % (
+        raise Mistake("%d relationships of %d ASes, and a network has at most %d links: --about ORIGINS keeps those "
+                      "that decide the routes of some, --core N those of the N ASes with the most" % (
                           len(kept), len(whole.customers), MOST_LINKS), path)
     return whole if len(kept) == len(whole.ties) else _with(whole, kept)
 
@@ -50,8 +50,8 @@ def _with(whole: Relations, ties: List[Tie]) -> Relations:
 
 
 class Cut(NamedTuple):
-    """What a part of a graph lacks: the ASes, the relationships, and of these those of which both ends are kept, by their
-    numbers; and which of the ASes that are kept lose a provider, and which all of theirs, ascending."""
+    """What a part of a graph lacks: how many ASes, relationships, and relationships of which both ends are kept; and
+    which of the ASes that are kept lose a provider, and which all of theirs, ascending."""
     ases: int
     relationships: int
     between: int
@@ -91,8 +91,9 @@ def told(lost: Cut, names_all: bool = False) -> List[str]:
     if lost.orphans:
         shown = lost.orphans if names_all else lost.orphans[:SHOWN]
         left = len(lost.orphans) - len(shown)
+        more = " and %d more (--all names them)" % left if left else ""
         lines.append("not taken over: all providers of %s: AS %s%s" % (
-            counted(len(lost.orphans), "AS"), ", ".join(map(str, shown)), " and %d more (--all names them)" % left if left else ""))
+            counted(len(lost.orphans), "AS"), ", ".join(map(str, shown)), more))
     if len(lost.losing) > len(lost.orphans):
         lines.append("not taken over: some providers of " + counted(len(lost.losing) - len(lost.orphans), "AS"))
     return lines
