@@ -404,6 +404,9 @@ class Script(Case):
                 (["--leak", "7"], "%s: --leak 7: AS 7 is not among those of the network" % path),
                 (["--about", "5", "--core", "3"], "--about names the origins, and takes the place of --core and "
                                                   "--origins: write it without them"),
+                (["--about", ""], "%s: --about : AS  is not among those of the network" % path),
+                (["--about", "5", "--observers", "4", "--check", "0"],
+                 "%s: --check: AS 1 is in a loop of providers, or below one, and cannot be decided by itself" % path),
                 (["--observers", "5"], "--observers and --check go with --about: write --about ORIGINS, too"),
                 (["--about", "5", "--check", "x"], "--check x: a number is expected, 0 to 4294967295")):
             ran = inside("from-as-rel", path, *words)
