@@ -284,8 +284,9 @@ class OnTheProgram(Case):
             origins, observers = lots.sample(known.asns(), 2), lots.sample(known.asns(), 8)
             part, whole = (Writer(each, origins, known) for each in (cone(known, origins, observers), known))
             changes = list(self.changes(part, lots))
-            before, expected, found = (self.tables(self.file("a.bgp", "".join(line + "\n" for line in lines))) for lines in (
-                whole.lines(), whole.lines() + changes, part.lines() + changes))
+            scripts = whole.lines(), whole.lines() + changes, part.lines() + changes
+            before, expected, found = (
+                self.tables(self.file("a.bgp", "".join(line + "\n" for line in lines))) for lines in scripts)
             self.assertEqual(found, {asn: expected[asn] for asn in part.known.asns()})
             changed += sum(before[asn] != expected[asn] for asn in found)
         self.assertGreater(changed, 50)
