@@ -69,6 +69,23 @@ class _Bounded(io.RawIOBase):
         return len(found)
 
 
+class _Digested(io.RawIOBase):
+    """A file whose bytes go through a hash of hashlib as they are read."""
+
+    def __init__(self, file: Any, digest: Any) -> None:
+        super().__init__()
+        self.file, self.digest = file, digest
+
+    def readable(self) -> bool:
+        return True
+
+    def readinto(self, room: Any) -> int:
+        found = self.file.read1(len(room))
+        self.digest.update(found)
+        room[:len(found)] = found
+        return len(found)
+
+
 def _unpacked_by(kind: str, file: Any, name: str, most: int) -> BinaryIO:
     """The bytes of a file that is packed so: `gz`, `bz2`, or not at all."""
     if kind not in ("gz", "bz2"):
@@ -134,19 +151,22 @@ def unpacked(path: str, most: int = MOST_UNPACKED) -> Iterator[BinaryIO]:
 
 
 @contextlib.contextmanager
-def _by_ending(path: str, most: int, is_named: bool = False) -> Iterator[BinaryIO]:
+def _by_ending(path: str, most: int, is_named: bool = False, digest: Any = None) -> Iterator[BinaryIO]:
     """The bytes of a file, unpacked by its ending."""
     with _read(path, is_named) as file:
-        yield _unpacked_by(path.rpartition(".")[2], file, named(path), most)
+        read = file if digest is None else io.BufferedReader(_Digested(file, digest), 1 << 16)
+        yield _unpacked_by(path.rpartition(".")[2], read, named(path), most)
 
 
-def lines_in(path: str, most: int = MOST_UNPACKED, is_named: bool = False) -> Iterator[Tuple[int, str]]:
+def lines_in(path: str, most: int = MOST_UNPACKED, is_named: bool = False,
+             digest: Any = None) -> Iterator[Tuple[int, str]]:
     """The lines of a text file, of a packed one (`most` bytes), or of standard input for `-`, each with its number.
+    Once all are read, `digest`, a hash of hashlib, has the bytes of the file, packed as they are.
 
     A byte that is no UTF-8 is four characters, as `\\xff`. Raises Mistake where it cannot be read, and at a line that
     is longer than any. A file that another one names (`is_named`) has to be a regular one."""
     number = 0
-    with _by_ending(path, most, is_named) as file:
+    with _by_ending(path, most, is_named, digest) as file:
         while True:
             line = file.readline(LONGEST_LINE + 1)
             if not line:
