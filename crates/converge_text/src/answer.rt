@@ -30,7 +30,7 @@ impl<M: Waiting> Language<Reached<M>> for ConvergeLines {
         machine: &mut Reached<M>,
     ) -> Result<(), WriterFailed> {
         match read_request(line) {
-            Some(request) => answer_request(rt, request, output, machine),
+            Some(request) => answer_request(rt, alloc, request, output, machine),
             None => answer_line(rt, alloc, line, output, machine),
         }
     }
@@ -39,6 +39,7 @@ impl<M: Waiting> Language<Reached<M>> for ConvergeLines {
 /// Does what is asked for, and writes the answer.
 fn answer_request<M: Waiting, W: Sink>(
     rt: &(impl Threads + Sync),
+    alloc: Global,
     request: Request,
     output: &mut Output<W>,
     machine: &mut Reached<M>,
@@ -47,7 +48,7 @@ fn answer_request<M: Waiting, W: Sink>(
         × Writes output.old answer result output.new }
 {
     match request {
-        Request::Converge(asked) => deliver_all(rt, asked, output, machine),
+        Request::Converge(asked) => deliver_all(rt, alloc, asked, output, machine),
         Request::Waiting => write_waiting(machine, output),
     }
 }

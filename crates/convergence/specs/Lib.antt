@@ -1,2 +1,3 @@
 pub mod Waiting
 pub mod Deliveries
+pub mod Places

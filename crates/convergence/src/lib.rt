@@ -8,6 +8,7 @@ mod engine;
 mod fair;
 mod laws;
 mod order;
+mod random;
 mod reached;
 mod run;
 mod waiting;
