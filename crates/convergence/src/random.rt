@@ -55,6 +55,7 @@ impl Random {
     }
 
     /// Notes all directions in which a message waits, by sender, then by receiver.
+    #[tactic(auto, using(crate::proofs::Quiet::not_quiet))]
     fn note_all<M: Waiting>(&mut self, machine: &Reached<M>) -> Result<(), AllocError>
         ensures { OnErr result (is_quiet machine.now ≡ false) }
     {
@@ -75,9 +76,23 @@ impl Random {
         ensures { OnErr result (is_quiet machine.now ≡ false) }
     {
         for session in machine.sessions(router) {
-            if machine.queued(router, session.peer).is_some() {
-                self.directions.insert((router.0, session.peer.0))?;
-            }
+            self.note(machine, router, session.peer)?;
+        }
+        Ok(())
+    }
+
+    /// Notes a direction, if a message waits in it.
+    #[tactic(auto, using(crate::proofs::Quiet::not_quiet))]
+    fn note<M: Waiting>(
+        &mut self,
+        machine: &Reached<M>,
+        from: Addr,
+        to: Addr,
+    ) -> Result<(), AllocError>
+        ensures { OnErr result (is_quiet machine.now ≡ false) }
+    {
+        if machine.queued(from, to).is_some() {
+            self.directions.insert((from.0, to.0))?;
         }
         Ok(())
     }

@@ -50,10 +50,11 @@ impl Run {
         ensures most { self.new.most ≡ self.old.most }
         ensures advance { IsAdvance machine.old self.old.most self.old.tally result self.new.tally machine.new }
     {
-        let (from, to) = match self.turns.next(machine) {
-            Ok(Some(direction)) => direction,
-            Ok(None) => return Advance::Ended(Ending::Converged),
-            Err(_) => return Advance::Ended(Ending::OutOfMemory),
+        let Ok(next) = self.turns.next(machine) else {
+            return Advance::Ended(Ending::OutOfMemory);
+        };
+        let Some((from, to)) = next else {
+            return Advance::Ended(Ending::Converged);
         };
         if self.tally.made >= self.most {
             return Advance::Ended(Ending::Limit);

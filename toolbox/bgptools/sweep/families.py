@@ -1,4 +1,4 @@
-"""Changes of one family, each to be tried on its own: failures, pairs of them, hijacks, files, drawn orders."""
+"""Changes of one family, each to be tried on its own: failures, pairs of them, hijacks, files, random orders."""
 from __future__ import annotations
 
 import math
@@ -112,7 +112,7 @@ def files(folder: str) -> List[Trial]:
 
 
 def orders(count: int) -> List[Trial]:
-    """The base converged in so many drawn orders."""
+    """The base converged in so many random orders."""
     return [Trial(ORDER, "order %d" % seed, seed=seed) for seed in range(1, count + 1)]
 
 
