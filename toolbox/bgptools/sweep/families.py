@@ -20,7 +20,7 @@ SINGLE = (LINK, ROUTER, SESSION)
 
 @dataclass(frozen=True)
 class Trial:
-    """A change to be tried. `failed` are the routers that it takes out of the network; `seed` is the number of a drawn
+    """A change to be tried. `failed` are the routers that it takes out of the network; `seed` is that of a random
     order, where the change is that alone."""
     kind: str
     title: str
