@@ -381,8 +381,8 @@ class Deliveries(Base):
 
     def test_one_order(self):
         net = self.network(TWO)
-        for words, text in ((("fairly",), "an order is fair or router or drawn, and not 'fairly'"),
-                            (("fair", 3), "one order is expected, and not drawn and fair"),
+        for words, text in ((("fairly",), "an order is fair or router or random, and not 'fairly'"),
+                            (("fair", 3), "one order is expected, and not random and fair"),
                             (("random", -3), "a seed is a number of 0 to 4294967295, and not -3"),
                             ((None, "x"), "a seed is a number of 0 to 4294967295, and not 'x'")):
             with self.assertRaisesRegex(Mistake, "^" + text):
