@@ -3,6 +3,7 @@
 
 It shares nothing with the Rattle code: it is written from the rules alone, decides everything afresh at each step, and is slow.
 """
+import copy
 import sys
 
 NAMES = ["", "syntax", "no-router", "router-exists", "same-router", "bad-end", "virtual-inside", "no-link", "link-exists",
@@ -143,6 +144,7 @@ class Net:
         self.queues = {}     # (from, to): list
         self.trees = {}
         self.offered = {}    # what was offered after the last step
+        self.kept = []       # snapshots: what all of these were
 
     # what follows from the configuration
 
@@ -609,6 +611,40 @@ def by_router(net):
         begun = next_waiting(net, begun)
 
 
+def words_of_pcg(state, stream):
+    """The words of pcg32_srandom(state, stream) and pcg32_random of PCG's C code."""
+    factor, increment, mask = 6364136223846793005, 2 * stream + 1, 2 ** 64 - 1
+    state = ((increment + state) * factor + increment) & mask
+    while True:
+        shifted, turn = (state ^ state >> 18) >> 27 & 0xFFFFFFFF, state >> 59
+        yield (shifted * 2 ** 32 + shifted) >> turn & 0xFFFFFFFF
+        state = (state * factor + increment) & mask
+
+
+def below(words, count):
+    """A number below the count: the part of a word, with one more word where that could carry into the number."""
+    product = next(words) * count
+    if product % 2 ** 32 > 2 ** 32 - count:
+        product += next(words) * count // 2 ** 32
+    return product // 2 ** 32
+
+
+def at_random(seed):
+    def directions(net):
+        words, noted = words_of_pcg(seed, 54), waiting(net)
+        while noted:
+            at = below(words, len(noted))
+            a, b = noted[at]
+            if not net.queues.get((a, b)):
+                noted[at] = noted[-1]
+                noted.pop()
+                continue
+            yield a, b
+            if not net.nodes[b][1]:
+                noted += [(b, c) for c in net.peers(b) if net.queues.get((b, c)) and (b, c) not in noted]
+    return directions
+
+
 ORDERS = {"fair": in_rounds, "router": by_router}
 
 
@@ -616,6 +652,8 @@ def converge(net, words):
     order, most, echo = in_rounds, 1000000, False
     if words and words[0] in ORDERS:
         order, words = ORDERS[words[0]], words[1:]
+    elif len(words) > 1 and words[0] == "random":
+        order, words = at_random(number(words[1])), words[2:]
     if words and words[0] != "echo":
         most, words = number(words[0]), words[1:]
     if words == ["echo"]:
@@ -634,9 +672,22 @@ def converge(net, words):
     return lines + [("not " if waiting(net) else "") + "converged after %d (%d updates, %d withdrawals)" % counts]
 
 
+def restored(net, n):
+    if not 1 <= n <= len(net.kept):
+        return ["no snapshot %d" % n]
+    before, net.__dict__ = net.kept[:n - 1], net.kept[n - 1]
+    net.kept = before
+    return ["ok"]
+
+
 def answer_converge(net, line):
     words = [w for w in line.split(" ") if w]
     try:
+        if len(line) <= 4096 and words == ["snapshot"]:
+            net.kept.append(copy.deepcopy({name: value for name, value in net.__dict__.items() if name != "kept"}))
+            return ["snapshot %d" % len(net.kept)]
+        if len(line) <= 4096 and words[:1] == ["restore"] and len(words) == 2:
+            return restored(net, number(words[1]))
         if len(line) <= 4096 and words[:1] == ["converge"]:
             return converge(net, words[1:])
         if len(line) <= 4096 and words == ["waiting"]:

@@ -2,4 +2,3 @@ mod Tokens
 mod RequestLemmas
 mod Echoing
 mod Directions
-mod Places

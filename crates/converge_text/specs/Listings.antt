@@ -1,20 +1,11 @@
 -- How far a list of directions has come. No public clause cites this module.
-use Rattle.std.specs.Prelude.{◌≡◌, ℕ, ◌+◌, ◌*◌, ◌<◌, List, ◌++◌, Option, Some, None, IfSome, Result}
+use Rattle.std.specs.Prelude.{◌≡◌, ℕ, List, ◌++◌, Option, None, Result}
 use Rattle.std.specs.List.{flat_map}
 use Rattle.net_prefix.specs.declared.addr.Addr.{Addr}
 use Rattle.watched.specs.Streams.{Writing, Writes}
 use Rattle.watched.specs.declared.sink.WriterFailed.{WriterFailed}
 use Rattle.reference_machine.specs.Network.{Network}
 use Rattle.converge_text.specs.Answers.{count_of, waiting_line, AreWaiting}
-
--- where a direction stands among all that could be
-abbrev pub place : Option (Addr × Addr) → ℕ
-place None = 0
-place (Some d) = d.0.0 * 4294967296 + d.1.0 + 1
-
--- the receiver's address is one of 32 bits
-abbrev pub Fits : Option (Addr × Addr) → Type 0
-Fits past = IfSome past (λ d. d.1.0 < 4294967296)
 
 -- the directions up to this one were listed, so many
 pub record AreListedTo (s : Network) (past : Option (Addr × Addr)) (count : ℕ) (o : Writing)

@@ -8,6 +8,7 @@ ghost use Rattle.converge_text.specs.Requests.{most_of};
 use crate::request::Converge;
 use crate::writing::{write_echo, write_ending};
 use convergence::{Advance, Order, Reached, Run, Waiting};
+use std::alloc::Global;
 use std::thread::Threads;
 use watched::{Output, Sink, WriterFailed};
 
@@ -18,6 +19,7 @@ const MOST: u32 = 1_000_000;
 /// writer fails they are delivered all the same.
 pub(crate) fn deliver_all<M: Waiting, W: Sink>(
     rt: &(impl Threads + Sync),
+    alloc: Global,
     asked: Converge,
     output: &mut Output<W>,
     machine: &mut Reached<M>,
@@ -27,7 +29,7 @@ pub(crate) fn deliver_all<M: Waiting, W: Sink>(
 {
     let order = asked.order.unwrap_or(Order::Fair);
     let most = asked.most.unwrap_or(MOST);
-    let mut run = Run::new(order, u64::from(most));
+    let mut run = Run::new(alloc, order, u64::from(most));
     let mut written = Ok(());
     'deliveries: loop {
         match run.advance(rt, machine) {

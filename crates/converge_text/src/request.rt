@@ -1,11 +1,12 @@
 //! The lines that are no commands, and what they ask for.
 
-ghost use Rattle.std.specs.Prelude.{◌≡◌, ◌↔◌, ◌++◌, ℕ, Bool, List, Option, IfSome, IsTrue, Some, codes};
+ghost use Rattle.std.specs.Prelude.{◌≡◌, ◌↔◌, ◌<◌, ◌^◌, [], ◌∷◌, ◌++◌, ℕ, Bool, List, Option, IfSome, IsSomeAnd, IsTrue, Some, codes};
+ghost use Rattle.std.specs.Fmt.{decimal};
 ghost use Rattle.command_text.specs.Lines.{tokens};
 ghost use Rattle.convergence.specs.declared.order.Order.{Order};
 ghost use Rattle.converge_text.specs.declared.request.Converge.{Converge};
 ghost use Rattle.converge_text.specs.declared.request.Request.{Request};
-ghost use Rattle.converge_text.specs.Requests.{Asks, BeginsNoNumber, BeginsNoOrder, IsConverge, IsMost, converge_words, echo_words, most_words, order_word, order_words};
+ghost use Rattle.converge_text.specs.Requests.{Asks, BeginsNoNumber, BeginsNoOrder, IsConverge, IsMost, IsOrder, converge_words, echo_words, maybe_order_words, most_words, order_words};
 
 use crate::words::{is_blank, next_word};
 use command_text::MAX_LINE;
@@ -19,6 +20,10 @@ pub enum Request {
     Converge(Converge),
     /// Where messages wait.
     Waiting,
+    /// To keep the network as it is.
+    Snapshot,
+    /// To take back the network that was kept as this number.
+    Restore(u32),
 }
 
 /// The deliveries that are asked for.
@@ -44,8 +49,14 @@ pub(crate) fn read_request(line: &[u8]) -> Option<Request>
     if is_converge(first) {
         return Some(Request::Converge(read_converge(rest)?));
     }
+    if is_restore(first) {
+        return Some(Request::Restore(read_number(rest)?));
+    }
     if is_waiting(first) && is_blank(rest) {
         return Some(Request::Waiting);
+    }
+    if is_snapshot(first) && is_blank(rest) {
+        return Some(Request::Snapshot);
     }
     None
 }
@@ -64,6 +75,32 @@ fn is_waiting(word: &[u8]) -> bool
     matches!(word, b"waiting")
 }
 
+/// Whether the word asks for a snapshot.
+fn is_snapshot(word: &[u8]) -> bool
+    ensures { IsTrue result ↔ (word.now ≡ codes "snapshot") }
+{
+    matches!(word, b"snapshot")
+}
+
+/// Whether the word asks for a snapshot to be taken back, whose number stands behind it.
+fn is_restore(word: &[u8]) -> bool
+    ensures { IsTrue result ↔ (word.now ≡ codes "restore") }
+{
+    matches!(word, b"restore")
+}
+
+/// The number that is the only word.
+fn read_number(text: &[u8]) -> Option<u32>
+    ensures found { IfSome result (λ n. (n < 2 ^ 32) × (tokens text.now ≡ decimal n ∷ [])) }
+    ensures complete { (n : ℕ) → n < 2 ^ 32 → tokens text.now ≡ decimal n ∷ [] → result ≡ Some n }
+{
+    let (number, rest) = next_number(text)?;
+    if !is_blank(rest) {
+        return None;
+    }
+    Some(number)
+}
+
 /// The deliveries that the words behind `converge` ask for.
 fn read_converge(text: &[u8]) -> Option<Converge>
     ensures found { IfSome result (λ asked. IsConverge asked × (tokens text.now ≡ converge_words asked)) }
@@ -78,29 +115,57 @@ fn read_converge(text: &[u8]) -> Option<Converge>
 
 /// The order at the head of the words, if there is one, and the words behind it.
 fn read_order(text: &[u8]) -> (Option<Order>, &[u8])
-    ensures found { tokens text.now ≡ order_words result.0 ++ tokens result.1.now }
-    ensures complete { (order : Option Order) (words : List (List ℕ)) → BeginsNoOrder words →
-        tokens text.now ≡ order_words order ++ words → (result.0 ≡ order) × (tokens result.1.now ≡ words) }
+    ensures fits { IfSome result.0 IsOrder }
+    ensures found { tokens text.now ≡ maybe_order_words result.0 ++ tokens result.1.now }
+    ensures complete { (order : Option Order) (words : List (List ℕ)) → IfSome order IsOrder → BeginsNoOrder words →
+        tokens text.now ≡ maybe_order_words order ++ words → (result.0 ≡ order) × (tokens result.1.now ≡ words) }
 {
-    let Some((word, rest)) = next_word(text) else {
-        return (None, text);
-    };
-    match order_of(word) {
-        Some(order) => (Some(order), rest),
+    match next_order(text) {
+        Some((order, rest)) => (Some(order), rest),
         None => (None, text),
     }
 }
 
-/// The order of this name.
-fn order_of(word: &[u8]) -> Option<Order>
-    ensures found { IfSome result (λ order. word.now ≡ order_word order) }
-    ensures complete { (order : Order) → word.now ≡ order_word order → result ≡ Some order }
+/// The order that the words begin with, and the words behind it.
+fn next_order(text: &[u8]) -> Option<(Order, &[u8])>
+    ensures fits { IfSome result (λ next. IsOrder next.0) }
+    ensures found { IfSome result (λ next. tokens text.now ≡ order_words next.0 ++ tokens next.1.now) }
+    ensures complete { (order : Order) (words : List (List ℕ)) → IsOrder order →
+        tokens text.now ≡ order_words order ++ words → IsSomeAnd result (λ next. (next.0 ≡ order) × (tokens next.1.now ≡ words)) }
 {
-    match word {
-        b"fair" => Some(Order::Fair),
-        b"router" => Some(Order::Router),
-        _ => None,
+    let (word, rest) = next_word(text)?;
+    if is_fair(word) {
+        return Some((Order::Fair, rest));
     }
+    if is_router(word) {
+        return Some((Order::Router, rest));
+    }
+    if is_random(word) {
+        let (seed, rest) = next_number(rest)?;
+        return Some((Order::Random(seed), rest));
+    }
+    None
+}
+
+/// Whether the word asks for the fair order.
+fn is_fair(word: &[u8]) -> bool
+    ensures { IsTrue result ↔ (word.now ≡ codes "fair") }
+{
+    matches!(word, b"fair")
+}
+
+/// Whether the word asks for the order by router.
+fn is_router(word: &[u8]) -> bool
+    ensures { IsTrue result ↔ (word.now ≡ codes "router") }
+{
+    matches!(word, b"router")
+}
+
+/// Whether the word asks for the random order, whose seed stands behind it.
+fn is_random(word: &[u8]) -> bool
+    ensures { IsTrue result ↔ (word.now ≡ codes "random") }
+{
+    matches!(word, b"random")
 }
 
 /// The number at the head of the words, if there is one, and the words behind it.
@@ -109,13 +174,21 @@ fn read_most(text: &[u8]) -> (Option<u32>, &[u8])
     ensures complete { (most : Option ℕ) (words : List (List ℕ)) → IsMost most → BeginsNoNumber words →
         tokens text.now ≡ most_words most ++ words → (result.0 ≡ most) × (tokens result.1.now ≡ words) }
 {
-    let Some((word, rest)) = next_word(text) else {
-        return (None, text);
-    };
-    match read_decimal(word) {
-        Some(most) => (Some(most), rest),
+    match next_number(text) {
+        Some((most, rest)) => (Some(most), rest),
         None => (None, text),
     }
+}
+
+/// The number that the words begin with, and the words behind it.
+fn next_number(text: &[u8]) -> Option<(u32, &[u8])>
+    ensures found { IfSome result (λ next. tokens text.now ≡ decimal next.0 ∷ tokens next.1.now) }
+    ensures complete { (n : ℕ) (words : List (List ℕ)) → n < 2 ^ 32 → tokens text.now ≡ decimal n ∷ words →
+        IsSomeAnd result (λ next. (next.0 ≡ n) × (tokens next.1.now ≡ words)) }
+{
+    let (word, rest) = next_word(text)?;
+    let number = read_decimal(word)?;
+    Some((number, rest))
 }
 
 /// Whether the words are `echo`, or none. None where they are others.

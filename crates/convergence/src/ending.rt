@@ -9,7 +9,7 @@ pub enum Ending {
     Converged,
     /// A message waits, and as many as asked for were delivered.
     Limit,
-    /// A message waits, and there is no memory for its delivery.
+    /// A message waits, and there is no memory for its delivery, or to choose it.
     OutOfMemory,
 }
 

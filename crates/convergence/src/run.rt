@@ -8,6 +8,7 @@ use crate::ending::{Advance, Convergence, Ending};
 use crate::order::{Order, Turns};
 use crate::reached::Reached;
 use crate::waiting::Waiting;
+use std::alloc::Global;
 use std::thread::Threads;
 
 /// Deliveries one after another, so many at most.
@@ -22,12 +23,12 @@ pub struct Run {
 
 impl Run {
     /// Nothing is delivered yet.
-    pub fn new(order: Order, most: u64) -> Self
+    pub fn new(alloc: Global, order: Order, most: u64) -> Self
         ensures most { result.most ≡ most }
         ensures tally { result.tally ≡ no_delivery }
     {
         Run {
-            turns: Turns::new(order),
+            turns: Turns::new(alloc, order),
             most,
             tally: Tally::EMPTY,
         }
@@ -49,7 +50,10 @@ impl Run {
         ensures most { self.new.most ≡ self.old.most }
         ensures advance { IsAdvance machine.old self.old.most self.old.tally result self.new.tally machine.new }
     {
-        let Some((from, to)) = self.turns.next(machine) else {
+        let Ok(next) = self.turns.next(machine) else {
+            return Advance::Ended(Ending::OutOfMemory);
+        };
+        let Some((from, to)) = next else {
             return Advance::Ended(Ending::Converged);
         };
         if self.tally.made >= self.most {
@@ -68,13 +72,14 @@ impl Run {
 /// Delivers messages that wait, one by one, until none waits or so many were delivered.
 pub fn converge<M: Waiting>(
     rt: &(impl Threads + Sync),
+    alloc: Global,
     machine: &mut Reached<M>,
     order: Order,
     most: u64,
 ) -> Convergence
     ensures { IsConvergence machine.old most result.tally result.ending machine.new }
 {
-    let mut run = Run::new(order, most);
+    let mut run = Run::new(alloc, order, most);
     'deliveries: loop {
         match run.advance(rt, machine) {
             Advance::Took(_) => {}

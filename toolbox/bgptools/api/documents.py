@@ -65,7 +65,7 @@ def effect(base: str, change: str, found: Effect, names: Names) -> Document:
 
 
 def stable_states(script: str, found: Found) -> Document:
-    """The stable states that drawn orders end in, each with the routes by which it differs from the others."""
+    """The stable states that random orders end in, each with the routes by which it differs from the others."""
     differing = found.differing()
     states = [{"seeds": state.seeds, "routes": [
         {"router": router, "prefix": prefix, "route": _route(router, state.routes.get((router, prefix)))}

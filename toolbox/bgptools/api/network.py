@@ -233,7 +233,7 @@ class Network(Commands):
                tries_others: bool = False) -> Converged:
         """Delivers until all queues are empty, and says what was delivered.
 
-        The order is `fair`, `router` or `drawn`, the last by a seed (1); a seed alone means it, too. Where that does
+        The order is `fair`, `router` or `random`, the last by a seed (1); a seed alone means it, too. Where that does
         not converge, NotConverged is raised, and the network stands where the deliveries stopped: `at` has it from before.
         With `tries_others` other orders are tried, from where it began. `most` deliveries are made at most.
 
@@ -246,7 +246,7 @@ class Network(Commands):
         8 {'203.0.113.0/24': ['1.0.0.1', '2.0.0.1']}
         >>> before = net.at(begin)
         >>> before.converge(seed=3).order
-        'in the drawn order 3'
+        'in the random order 3'
         >>> net.close(), before.close()
         (None, None)
         """
@@ -298,15 +298,15 @@ class Network(Commands):
 
 
 def _order(name: Optional[str], seed: Optional[int]) -> Order:
-    """The order of a name, or the drawn one of a seed."""
+    """The order of a name, or the random one of a seed."""
     if name not in (None, *NAMES):
         raise Mistake("an order is %s, and not %r" % (" or ".join(NAMES), name))
-    drawn = None if seed is None else number(str(seed))
-    if seed is not None and drawn is None:
+    chosen = None if seed is None else number(str(seed))
+    if seed is not None and chosen is None:
         raise Mistake("a seed is a number of 0 to 4294967295, and not %r" % (seed,))
-    if seed is not None and name not in (None, "drawn"):
-        raise Mistake("one order is expected, and not drawn and %s: a seed is for the drawn one" % name)
-    return named(name or ("fair" if seed is None else "drawn"), drawn)
+    if seed is not None and name not in (None, "random"):
+        raise Mistake("one order is expected, and not random and %s: a seed is for the random one" % name)
+    return named(name or ("fair" if seed is None else "random"), chosen)
 
 
 def _text(given: Union[Address, Prefix, None]) -> Optional[str]:

@@ -22,12 +22,12 @@ def parser() -> argparse.ArgumentParser:
         "Writes the script with the deliveries that empty all queues, after each command or at the end. Where they never are empty in one "
         "order, others are tried, and it is told which converges."),
         epilog="Exit status: 0; 1 where the network converges in no order that was tried, and then nothing is written (with --states, where "
-               "some drawn order does not converge); 2 a mistake, as a line that is refused and is not marked so. A delivery of the script "
+               "some random order does not converge); 2 a mistake, as a line that is refused and is not marked so. A delivery of the script "
                "itself that finds nothing left is left out.")
     made.add_argument("script", metavar="SCRIPT", help="the script; - is standard input")
     made.add_argument("--at-end", action="store_true", help="deliver at the end only")
     add_order(made)
-    made.add_argument("--states", type=int, metavar="N", help="write no script, but which stable states N drawn orders end in, and how often")
+    made.add_argument("--states", type=int, metavar="N", help="write no script, but which stable states N random orders end in, and how often")
     made.add_argument("--most", type=int, metavar="N", help=(
         "stop after so many deliveries at one place (ten thousand and more, by the size of the network)"))
     made.add_argument("--all", action="store_true", help="tell all that keep changing where the network does not converge, and not only the first ones")
@@ -42,8 +42,8 @@ def parser() -> argparse.ArgumentParser:
 
 def _states(chosen: argparse.Namespace) -> int:
     """The answer to --states."""
-    if chosen.states < 1 or chosen.order not in (None, "drawn") or chosen.by_router or chosen.seed is not None:
-        raise Mistake("--states %d: a number of at least 1 is expected, and no order, since all are drawn" % chosen.states)
+    if chosen.states < 1 or chosen.order not in (None, "random") or chosen.by_router or chosen.seed is not None:
+        raise Mistake("--states %d: a number of at least 1 is expected, and no order, since all are random" % chosen.states)
     found = look_for(read(chosen.script), chosen.states, chosen.at_end, chosen.most)
     if chosen.json:
         from ..api import documents

@@ -1,4 +1,4 @@
-"""What each change of a family does on its own, the worst first: failures, pairs, hijacks, files, drawn orders."""
+"""What each change of a family does on its own, the worst first: failures, pairs, hijacks, files, random orders."""
 from __future__ import annotations
 
 import argparse
@@ -50,7 +50,7 @@ def _add_families(made: argparse.ArgumentParser) -> None:
         "each AS in turn originates the prefix, at its router of the lowest address; may be given again"))
     group.add_argument("--changes", metavar="FOLDER", help="each file of the folder is a change, any commands")
     group.add_argument("--orders", type=int, metavar="N", help=(
-        "BASE is converged in N drawn orders: which stable states are there"))
+        "BASE is converged in N random orders: which stable states are there"))
 
 
 def _add_forms(made: argparse.ArgumentParser) -> None:

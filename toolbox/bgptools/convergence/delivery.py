@@ -63,31 +63,14 @@ class Deliverer:
         """Delivers until no message waits, or until the limit. Where that is reached, it is examined why."""
         done, limit, self.progress = Convergence(self.order), self.limit(), Progress()
         if self.waiting.most or self.is_unsure:
-            self._draw(limit, done)
-            self._converge(limit - len(done.deliveries), done)
+            self._converge(limit, done)
         self.progress.done()
         return done
 
-    def _draw(self, limit: int, done: Convergence) -> None:
-        """Delivers in the rounds for which lots are drawn, if the order has such."""
-        self.order.begin()
-        while self.order.draws() and len(done.deliveries) < limit:
-            ways = self.program.waiting()
-            if not ways:
-                return
-            tried = self.order.choose(ways)[:limit - len(done.deliveries)]
-            for way, reply in zip(tried, self.program.say_all("deliver %s %s" % way for way in tried)):
-                if refusal(reply):
-                    raise Mistake("deliver %s %s: %s: memory was refused" % (way + (reply[0],)))
-                done.deliveries.append(way)
-                done.taken.append(reply[0])
-            self.progress.tell("%d deliveries .." % len(done.deliveries))
-
     def _converge(self, room: int, done: Convergence) -> None:
         """Has the program deliver, at most so many messages."""
-        before = len(done.deliveries)
-        found = self.program.converge(self.order.name, room,
-                                      lambda count: self.progress.tell("%d deliveries .." % (before + count)))
+        found = self.program.converge(self.order.asked, room,
+                                      lambda count: self.progress.tell("%d deliveries .." % count))
         if not found.is_converged and not found.is_refused:
             done.is_converged = False
             why = examine(self.program, self.network, found.commands, found.replies)

@@ -14,9 +14,10 @@ from ..program.names import Names
 from ..program.replies import refusal
 from ..program.script import Line
 from .delivery import Deliverer, Convergence
-from .orders import Drawn, Order, RouterByRouter
+from .orders import Order, RandomOrder, RouterByRouter
 
-DRAWN = 8
+# So many random orders are tried where another one does not converge.
+RANDOM_ORDERS = 8
 # So many prefixes, and so many routers of each, are told of those that keep changing.
 PREFIXES, ROUTERS = 8, 10
 
@@ -161,7 +162,7 @@ def is_delivery(line: str) -> bool:
 
 def _others(order: Order) -> List[Order]:
     """The orders that are tried where this one does not converge."""
-    known: List[Order] = [Order(), RouterByRouter()] + [Drawn(seed) for seed in range(1, DRAWN + 1)]
+    known: List[Order] = [Order(), RouterByRouter()] + [RandomOrder(seed) for seed in range(1, RANDOM_ORDERS + 1)]
     return [each for each in known if each.words != order.words]
 
 
@@ -198,9 +199,9 @@ def _changing(done: Convergence, names: Names, is_whole: bool) -> str:
 
 def _tried(others: List[Convergence]) -> str:
     """The orders that were tried, in few words."""
-    drawn = sum(done.order.is_drawn for done in others)
-    fixed = [done.order.words for done in others if not done.order.is_drawn]
-    return ", ".join(fixed + (["%d drawn" % drawn] if drawn else []))
+    count = sum(done.order.is_random for done in others)
+    fixed = [done.order.words for done in others if not done.order.is_random]
+    return ", ".join(fixed + (["%d random" % count] if count else []))
 
 
 def not_converged(done: Convergence, names: Optional[Names] = None, is_whole: bool = False) -> str:

@@ -1,4 +1,4 @@
-"""The stable states of a network: in which ones drawn orders of delivery end, and how often."""
+"""The stable states of a network: in which ones random orders of delivery end, and how often."""
 from __future__ import annotations
 
 from dataclasses import dataclass, field
@@ -11,7 +11,7 @@ from ..program.replies import Route, route_text, routes
 from ..program.script import Line
 from .delivery import Convergence
 from .delivery_script import converged
-from .orders import Drawn
+from .orders import RandomOrder
 from .run import Run, not_converged
 
 Cell = Tuple[str, str]
@@ -57,11 +57,11 @@ def _routes(run: Run) -> Dict[Cell, Route]:
 
 
 def look_for(lines: List[Line], count: int, is_at_end: bool, most: Optional[int]) -> Found:
-    """The stable states that so many drawn orders end in. Where no limit is given, an order may take ten thousand
+    """The stable states that so many random orders end in. Where no limit is given, an order may take ten thousand
     deliveries and more."""
     found, progress = Found(), Progress()
     for seed in range(1, count + 1):
-        with Run(Drawn(seed), most) as run:
+        with Run(RandomOrder(seed), most) as run:
             _, endless = converged(run, lines, is_at_end)
             if endless:
                 found.endless[seed] = endless
@@ -89,7 +89,7 @@ def text_of(found: Found) -> str:
     """What was found, for a reader."""
     count = len(found.states)
     ends = ["" if number == 1 else "s" for number in (count, found.count)]
-    lines = ["%d stable state%s in %d drawn order%s" % (count, ends[0], found.count, ends[1])]
+    lines = ["%d stable state%s in %d random order%s" % (count, ends[0], found.count, ends[1])]
     lines += [line for at in range(count) for line in _state(found, at)] if count > 1 else []
     if found.endless:
         seed, done = next(iter(found.endless.items()))

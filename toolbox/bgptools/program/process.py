@@ -101,7 +101,7 @@ class Program:
         return [(words[0], words[1]) for words in map(words_of, self.request("waiting")[:-1])]
 
     def converge(self, order: str, most: int, told: Callable[[int], None] = lambda count: None) -> Echo:
-        """Delivers in an order of the program's, `fair` or `router`, until no message waits or so many were delivered.
+        """Delivers in an order of the program's, as `fair` or `random 7`, until no message waits or so many were delivered.
 
         `told` is called with the number of deliveries so far. The reply is read in bulk, and `heard` is not called."""
         self.before()

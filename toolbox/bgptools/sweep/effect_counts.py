@@ -20,7 +20,7 @@ class Figures:
     """What a change does. `routes` has the numbers of each router with any; `down` counts sessions, `told` external
     neighbours that are told otherwise; `packets` go another way, `black_holes` and `loops` among them. `is_single` says
     that one failure takes from others what was not the failed router's own. `state` tells the routes of all routers
-    apart from others, of a drawn order. `text` is what what-if tells; `mistake` why it tells nothing. `is_lost` says
+    apart from others, of a random order. `text` is what what-if tells; `mistake` why it tells nothing. `is_lost` says
     that what tried it died each time: it may be tried again."""
     moved: int = 0
     lost: int = 0

@@ -1,4 +1,4 @@
-"""Changes of one family, each to be tried on its own: failures, pairs of them, hijacks, files, drawn orders."""
+"""Changes of one family, each to be tried on its own: failures, pairs of them, hijacks, files, random orders."""
 from __future__ import annotations
 
 import math
@@ -20,7 +20,7 @@ SINGLE = (LINK, ROUTER, SESSION)
 
 @dataclass(frozen=True)
 class Trial:
-    """A change to be tried. `failed` are the routers that it takes out of the network; `seed` is the number of a drawn
+    """A change to be tried. `failed` are the routers that it takes out of the network; `seed` is that of a random
     order, where the change is that alone."""
     kind: str
     title: str
@@ -112,7 +112,7 @@ def files(folder: str) -> List[Trial]:
 
 
 def orders(count: int) -> List[Trial]:
-    """The base converged in so many drawn orders."""
+    """The base converged in so many random orders."""
     return [Trial(ORDER, "order %d" % seed, seed=seed) for seed in range(1, count + 1)]
 
 

@@ -17,7 +17,7 @@ from ..change.rollback import commands_back
 from ..change.transients import Watch
 from ..change.what_if import converged_base
 from ..convergence.delivery import Deliverer, Convergence
-from ..convergence.orders import Drawn, order_of
+from ..convergence.orders import RandomOrder, order_of
 from ..convergence.run import Run
 from ..network.configuration import Direction
 from ..network.prefix_parts import PLACES
@@ -191,8 +191,8 @@ class Player:
         self.run = self._fresh()
 
     def _ordered(self, trial: Trial) -> Figures:
-        """The base, converged in a drawn order, beside the quiet one."""
-        with Run(Drawn(trial.seed), self.job.chosen.most) as run:
+        """The base, converged in a random order, beside the quiet one."""
+        with Run(RandomOrder(trial.seed), self.job.chosen.most) as run:
             run.play(self.job.script)
             watch, done = Watch(run), run.converge()
             difference = compare(self.quiet, run, [], has_reasons=self.job.has_texts)

@@ -53,7 +53,7 @@ class Table:
             losing, "loses" if losing == 1 else "lose", endless, "does" if endless == 1 else "do")]
         orders = sum(trial.kind == ORDER for trial, _ in self.rows)
         if orders:
-            lines.append("%s in %s" % (count(len(self.known), "stable state"), count(orders, "drawn order")))
+            lines.append("%s in %s" % (count(len(self.known), "stable state"), count(orders, "random order")))
             lines += ["  state %d: in %d of %d, as with order %d" % (
                 number, len(self.states[state]), orders, self.states[state][0])
                 for number, state in enumerate(self.known, 1)]

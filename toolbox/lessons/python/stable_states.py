@@ -1,7 +1,7 @@
 """The stable states of two networks that do not converge in the fair order: two ASes that prefer each other (DISAGREE),
 and the route reflectors of RFC 3345, where MED is compared within one neighbouring AS.
 
-Each is converged in 20 drawn orders, each on a copy; states are told with how often they came."""
+Each is converged in 20 random orders, each on a copy; states are told with how often they came."""
 import pathlib
 from collections import Counter
 from typing import Tuple
@@ -38,7 +38,7 @@ def rfc_3345() -> Network:
 
 
 def states(net: Network) -> "Counter[State]":
-    """In which states drawn orders end, and how often; none of them is where one does not converge."""
+    """In which states random orders end, and how often; none of them is where one does not converge."""
     found: "Counter[State]" = Counter()
     for seed in range(1, ORDERS + 1):
         with net.copy() as trial:
@@ -54,7 +54,7 @@ def states(net: Network) -> "Counter[State]":
 def tell(title: str, net: Network) -> None:
     """Prints the states, those that came most often first."""
     found = states(net)
-    print("%s: %d stable, in %d drawn orders" % (title, len(found) - (() in found), ORDERS))
+    print("%s: %d stable, in %d random orders" % (title, len(found) - (() in found), ORDERS))
     for state, count in sorted(found.items(), key=lambda each: (-each[1], each[0])):
         told = "; ".join("%s by %s" % each for each in state) or "it does not converge"
         print("  in %d: %s" % (count, told))

@@ -302,8 +302,8 @@ class Deliveries(Base):
         """The script of a network that was converged at its end is the one that the tool writes."""
         path, seen = DATA / "ring.bgp", set()
         for words, how in (((), {}), (("--router",), {"order": "router"}), (("--order", "fair"), {"order": "fair"}),
-                           (("--seed", "3"), {"seed": 3}), (("--order", "drawn"), {"order": "drawn"}),
-                           (("--seed", "7"), {"order": "drawn", "seed": 7})):
+                           (("--seed", "3"), {"seed": 3}), (("--order", "random"), {"order": "random"}),
+                           (("--seed", "7"), {"order": "random", "seed": 7})):
             net = self.loaded(path)
             base = len(net.script().splitlines())
             done = self.keep(net.copy()).converge(**how), net.converge(**how)
@@ -316,7 +316,7 @@ class Deliveries(Base):
         self.assertEqual(len(seen), 5)
 
     def test_a_copy_delivers_as_the_network_would(self):
-        """Also where the network knows what its routers chose, and a drawn order depends on that."""
+        """Also where the network knows what its routers chose, and a random order depends on that."""
         for seed in range(1, 6):
             net = self.network((DATA / "ring.bgp").read_text())
             net.converge()
@@ -367,8 +367,8 @@ class Deliveries(Base):
                          [line for line in net.script().splitlines() if line.startswith("deliver")])
         net = self.loaded(LESSONS / "disagree.bgp")
         done = net.converge(tries_others=True)
-        self.assertEqual(done.order, "in the drawn order 3")
-        self.assertRegex(done.note, "^in the fair order .*; it converges in the drawn order 3; of 9 .*, in 2 stable states$")
+        self.assertEqual(done.order, "in the random order 3")
+        self.assertRegex(done.note, "^in the fair order .*; it converges in the random order 3; of 9 .*, in [12] stable states?$")
         self.assertTrue(net.quiet())
 
     def test_at_most_so_many(self):
@@ -381,9 +381,9 @@ class Deliveries(Base):
 
     def test_one_order(self):
         net = self.network(TWO)
-        for words, text in ((("fairly",), "an order is fair or router or drawn, and not 'fairly'"),
-                            (("fair", 3), "one order is expected, and not drawn and fair"),
-                            (("drawn", -3), "a seed is a number of 0 to 4294967295, and not -3"),
+        for words, text in ((("fairly",), "an order is fair or router or random, and not 'fairly'"),
+                            (("fair", 3), "one order is expected, and not random and fair"),
+                            (("random", -3), "a seed is a number of 0 to 4294967295, and not -3"),
                             ((None, "x"), "a seed is a number of 0 to 4294967295, and not 'x'")):
             with self.assertRaisesRegex(Mistake, "^" + text):
                 net.converge(*words)
@@ -471,7 +471,7 @@ class Changes(Base):
 
     def test_another_order_is_told(self):
         found = self.loaded(LESSONS / "disagree.bgp").what_if(["origin 3.0.0.1 20.0.0.0/8"])
-        self.assertEqual([note.split(";")[2] for note in found.notes], [" it converges in the drawn order 3"] * 2)
+        self.assertEqual([note.split(";")[2] for note in found.notes], [" it converges in the random order 3"] * 2)
 
 
 class More(Base):

@@ -146,7 +146,7 @@ feed 2.0.0.1 9.0.0.1 update 198.51.100.0/24 2 igp 0""".split("\n")))
     def test_another_order_is_told(self):
         script = TOP / "toolbox/lessons/disagree.bgp"
         told = tool("explain", "--converge", script, "left", "203.0.113.0/24", status=0)
-        self.assertRegex(told.stderr, "in the fair order .*; it converges in the drawn order 3; .* in 2 stable states\n")
+        self.assertRegex(told.stderr, "in the fair order .*; it converges in the random order 3; .* in [12] stable states?\n")
         self.assertEqual(tool("explain", "--converge", "--seed", 3, script, "left", "203.0.113.0/24", status=0).stderr, "")
 
     def test_mistakes(self):

@@ -203,7 +203,7 @@ class Json(Case):
         found = self.told("converge", DISAGREE, "--states", 6, "--at-end", status=1)
         self.assertEqual(sum(len(state["seeds"]) for state in found["states"]) + len(found["not_converged"]), 6)
         text = tool("converge", DISAGREE, "--states", 6, "--at-end").stdout
-        self.assertIn("%d stable states in 6 drawn orders" % len(found["states"]), text)
+        self.assertIn("%d stable states in 6 random orders" % len(found["states"]), text)
         base = LESSONS / "three-ases.bgp"
         routes = self.told("converge", base, "--by-prefix", 1, "--jobs", 1)["routes"]
         lines = tool("converge", base, "--by-prefix", 1, "--jobs", 1).stdout.split("\n")

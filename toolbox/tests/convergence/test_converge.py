@@ -6,7 +6,7 @@ from common import DATA, EXAMPLES, SCRIPTS, TOP, Case, inside, marked, program, 
 
 from bgptools.convergence.delivery import Deliverer
 from bgptools.convergence.delivery_script import converged
-from bgptools.convergence.orders import Drawn, Order, RouterByRouter
+from bgptools.convergence.orders import Order, RandomOrder, RouterByRouter
 from bgptools.convergence.run import Run
 from bgptools.program.script import lines_of, read
 from simtools import random_scripts
@@ -82,18 +82,18 @@ class Converge(Case):
         told = tool("converge", OSCILLATION, status=1)
         self.assertEqual(told.stdout, "")
         self.assertRegex(told.stderr, r"in the fair order the same state comes back every \d+ deliveries; 203\.0\.113\.0/24 keeps changing at 1\.0\.0\.1, 1\.0\.0\.4;")
-        self.assertIn("of 9 other orders (router by router, 8 drawn) none converges", told.stderr)
-        self.assertIn("0 stable states in 2 drawn orders\n2 of 2 did not converge", tool("converge", OSCILLATION, "--states", "2", status=1).stdout)
+        self.assertIn("of 9 other orders (router by router, 8 random) none converges", told.stderr)
+        self.assertIn("0 stable states in 2 random orders\n2 of 2 did not converge", tool("converge", OSCILLATION, "--states", "2", status=1).stdout)
 
     def test_two_that_prefer_each_other_have_two_stable_states(self):
         told = tool("converge", DISAGREE, status=0)
         self.assertRegex(told.stderr, r"disagree\.bgp:16: in the fair order the same state comes back every \d+ deliveries; 203\.0\.113\.0/24 keeps changing at "
-                         r"left \(1\.0\.0\.1\), right \(2\.0\.0\.1\); it converges in the drawn order 3; of 9 other orders .* converge, in 2 stable states\n")
+                         r"left \(1\.0\.0\.1\), right \(2\.0\.0\.1\); it converges in the random order 3; of 9 other orders .* converge, in \d stable states?\n")
         self.assertEqual(program(told.stdout + "quiet\n")[-1], "yes")
         wanted = [{"1.0.0.1": "2,3", "2.0.0.1": "3"}, {"1.0.0.1": "3", "2.0.0.1": "1,3"}]
         self.assertIn(self.paths(told.stdout), wanted)
         found = tool("converge", DISAGREE, "--states", "12", status=1).stdout
-        self.assertTrue(found.startswith("2 stable states in 12 drawn orders\nState 1: in "))
+        self.assertTrue(found.startswith("2 stable states in 12 random orders\nState 1: in "))
         seeds = re.findall(r"^State \d: in \d+ of 12, as with --seed (\d+)$", found, re.M)
         ends = [self.paths(tool("converge", DISAGREE, "--seed", seed, status=0).stdout) for seed in seeds]
         self.assertCountEqual(ends, wanted)
@@ -107,7 +107,7 @@ class Converge(Case):
         return {router: re.search("path=([0-9,]+)", reply).group(1) for router, reply in zip(routers, replies)}
 
     def test_a_network_with_one_stable_state(self):
-        self.assertEqual(tool("converge", DATA / "ring.bgp", "--states", "3", status=0).stdout, "1 stable state in 3 drawn orders\n")
+        self.assertEqual(tool("converge", DATA / "ring.bgp", "--states", "3", status=0).stdout, "1 stable state in 3 random orders\n")
 
     def test_what_communities_keep_back_is_not_waited_for(self):
         """Of five routes, two carry nothing well-known at 1: it tells 2 both, and by a rule 3 the first alone."""
@@ -140,8 +140,8 @@ class Converge(Case):
                          tool("converge", "--at-end", "--order", "router", "-", given=given.encode(), status=0).stdout)
 
     def test_words_that_name_no_order(self):
-        for words, said in ((["--router", "--seed", "2"], "one order is expected, and not drawn and router"), (["--seed", "x"], "--seed x: a number"),
-                            (["--states", "0"], "--states 0: a number of at least 1"), (["--states", "2", "--router"], "no order, since all are drawn")):
+        for words, said in ((["--router", "--seed", "2"], "one order is expected, and not random and router"), (["--seed", "x"], "--seed x: a number"),
+                            (["--states", "0"], "--states 0: a number of at least 1"), (["--states", "2", "--router"], "no order, since all are random")):
             with self.subTest(words=words):
                 self.assertIn(said, tool("converge", DISAGREE, *words, status=2).stderr)
 
@@ -167,7 +167,7 @@ class Converge(Case):
         made = [random_scripts.script(seed, 300).encode("latin-1") for seed in range(11, 15)]
         for at, content in enumerate(made + [path.read_bytes() for path in EXAMPLES]):
             lines = lines_of(marked(content)[0], "a script")
-            for is_at_end, order in ((False, Order()), (True, Order()), (True, RouterByRouter()), (True, Drawn(3)))[:4 if at < len(made) else 1]:
+            for is_at_end, order in ((False, Order()), (True, Order()), (True, RouterByRouter()), (True, RandomOrder(3)))[:4 if at < len(made) else 1]:
                 with self.subTest(at=at, order=order.words), mock.patch.object(Deliverer, "converge", converge), Run(order) as run:
                     converged(run, lines, is_at_end)
                     self.assertIn("deliver", "".join(run.lines))

@@ -5,12 +5,13 @@ from unittest import mock
 
 from common import DATA, EXAMPLES, TOOLBOX, Case, marked
 
-from bgptools.convergence.orders import Drawn, Order, RouterByRouter
+from bgptools.convergence.orders import Order, RandomOrder, RouterByRouter
 from bgptools.convergence.recurrence import Replay, matches, repetition
 from bgptools.convergence.run import Run
 from bgptools.program import process
 from bgptools.program.language import by_address
 from bgptools.program.mistakes import Mistake
+from bgptools.program.pcg import STREAM, Pcg32
 from bgptools.program.process import Program, ProgramEnded
 from bgptools.program.script import lines_of
 from simtools import random_scripts
@@ -82,11 +83,27 @@ class Oracle:
                     return way
         return self.in_rounds(waiting)
 
+    def random(self, waiting):
+        """A lot among those that were seen waiting, the newest last; one in which none waits is replaced by the last."""
+        now = set(waiting)
+        if self.past is None:
+            self.seen = list(waiting)
+        elif self.network.is_router(self.past[1]):
+            self.seen += [way for way in waiting if way[0] == self.past[1] and way not in self.seen]
+        at = self.generator.below(len(self.seen))
+        while self.seen[at] not in now:
+            self.seen[at] = self.seen[-1]
+            self.seen.pop()
+            at = self.generator.below(len(self.seen))
+        self.past = self.seen[at]
+        return self.past
+
     def deliveries(self, order, most):
         """The commands and their replies, and whether no message waits."""
         made, waiting = [], self.waiting()
+        self.generator = Pcg32(getattr(order, "seed", 0), STREAM)
         while waiting and len(made) < most:
-            command = "deliver %s %s" % getattr(self, order)(waiting)
+            command = "deliver %s %s" % getattr(self, order.name)(waiting)
             made.append((command, self.program.say(command)[0]))
             waiting = self.waiting()
         return made, not waiting
@@ -100,8 +117,8 @@ class Orders(Case):
             kept = [line.text for line, reply in zip(lines, replies) if reply]
             other.say_all(kept)
             third.say_all(kept)
-            wanted, is_converged = Oracle(other, run.network).deliveries(order.name, MOST)
-            echo = third.converge(order.name, MOST)
+            wanted, is_converged = Oracle(other, run.network).deliveries(order, MOST)
+            echo = third.converge(order.asked, MOST)
             self.assertEqual(list(zip(echo.commands, echo.replies)), wanted)
             kinds = [reply.split(" ")[2] for _, reply in wanted]
             self.assertEqual(echo.ending, "%sconverged after %d (%d updates, %d withdrawals)" % (
@@ -115,7 +132,7 @@ class Orders(Case):
 
     def test_lessons(self):
         for path in SCRIPTS:
-            for order in (Order(), RouterByRouter()):
+            for order in (Order(), RouterByRouter(), RandomOrder(7)):
                 with self.subTest(path=path, order=order.words):
                     self.assert_same(lines_of(marked(path.read_bytes())[0], str(path)), order)
 
@@ -123,7 +140,7 @@ class Orders(Case):
         count = 0
         for seed in range(21, 27):
             content = marked(random_scripts.script(seed, 250).encode("latin-1"))[0]
-            for order in (Order(), RouterByRouter()):
+            for order in (Order(), RouterByRouter(), RandomOrder(7)):
                 with self.subTest(seed=seed, order=order.words):
                     lines = [line for line in lines_of(content, "a script") if line.words[:1] != ["deliver"]]
                     count += self.assert_same(lines, order)
@@ -133,7 +150,7 @@ class Orders(Case):
         """So that one is not taken for the other."""
         lines = lines_of((DATA / "ring.bgp").read_bytes(), "ring.bgp")
         made = []
-        for order in (Order(), RouterByRouter(), Drawn(1)):
+        for order in (Order(), RouterByRouter(), RandomOrder(1)):
             with Run(order) as run:
                 run.play(lines)
                 made.append(run.converge().deliveries)

@@ -356,7 +356,7 @@ class Completion(Case):
         self.assertEqual(self.completed("bgpsim-what-if", "anna"), ["anna's", "anna.bgp"])
         self.assertEqual(self.completed("bgpsim-what-if", "anna.bgp", "anna."), ["anna.bgp"])
         self.assertEqual(self.completed("bgpsim-converge", "anna.bgp", "-o", "anna."), ["anna.bgp"])
-        self.assertEqual(self.completed("bgpsim-converge", "--order", ""), ["drawn", "fair", "router"])
+        self.assertEqual(self.completed("bgpsim-converge", "--order", ""), ["fair", "random", "router"])
         self.assertEqual(self.completed("bgpsim-converge", "--seed", ""), [])
         self.assertEqual(self.completed("bgpsim-what-if", "--trace", "1.0.0.1", ""), [])
         self.assertEqual(self.completed("bgpsim-what-if", "--trace", "1.0.0.1", "10.0.0.1", "anna."), ["anna.bgp"])

@@ -60,8 +60,8 @@ class Studies(Case):
         and 1.0.0.2 keeps its own."""
         both = ("1.0.0.1 by 2,3; 2.0.0.1 by 3; 3.0.0.1 by -", "1.0.0.1 by 3; 2.0.0.1 by 1,3; 3.0.0.1 by -")
         lines = self.printed("stable_states").splitlines()
-        at = lines.index("RFC 3345: 0 stable, in 20 drawn orders")
-        self.assertEqual(lines[0], "DISAGREE: 2 stable, in 20 drawn orders")
+        at = lines.index("RFC 3345: 0 stable, in 20 random orders")
+        self.assertEqual(lines[0], "DISAGREE: 2 stable, in 20 random orders")
         counts = {line.split(": ")[1]: int(line.split(": ")[0].split(" ")[-1]) for line in lines[1:at]}
         self.assertEqual(set(counts), {*both, "it does not converge"})
         told = tool("converge", TOOLBOX / "lessons" / "disagree.bgp", "--at-end", "--states", "20", status=1).stdout
@@ -70,7 +70,7 @@ class Studies(Case):
                          {state: counts[state] for state in both})
         self.assertEqual(lines[at + 1:], [
             "  in 20: it does not converge",
-            "RFC 3345, where both reflectors compare MED over all neighbours: 1 stable, in 20 drawn orders",
+            "RFC 3345, where both reflectors compare MED over all neighbours: 1 stable, in 20 random orders",
             "  in 20: 1.0.0.1 by 6,100; 1.0.0.2 by 10,100; 1.0.0.3 by 6,100; 1.0.0.4 by 6,100; 1.0.0.5 by 6,100"])
 
     def test_the_network_of_rfc_3345_is_that_of_the_lesson(self):

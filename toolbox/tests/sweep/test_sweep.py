@@ -215,7 +215,7 @@ class Families(Case):
             self.assertIn("state %s: in %s of 10, as with order %s\n" % (number, many, seed), told.stdout)
         endless = int(re.search(r"(\d+) of 10 did not converge", states).group(1))
         self.assertEqual((told.returncode, told.stdout.count("DOES NOT CONVERGE")), (1, endless))
-        self.assertIn("2 stable states in 10 drawn orders\n", told.stdout)
+        self.assertIn("2 stable states in 10 random orders\n", told.stdout)
 
     def test_mistakes_of_the_call(self):
         for words, said in (

@@ -1,9 +1,9 @@
 use Rattle.std.proofs.Common.{◌≡◌, ◌+◌, ◌-◌, ◌<◌, min, Option, Some, sym, subst, ◌∙◌, arith, rules}
 use Rattle.net_prefix.specs.declared.addr.Addr.{Addr}
 use Rattle.convergence.specs.Waiting.{IsNextWaiting}
-use Rattle.converge_text.specs.Listings.{place}
+use Rattle.convergence.specs.Places.{place}
 use Rattle.converge_text.proofs.Directions.{all_listed, one_listed}
-use Rattle.converge_text.proofs.Places.{place_grows}
+use Rattle.convergence.proofs.Places.{place_grows}
 use Rattle.converge_text.proofs.listing.write_waiting.Goals as goal
 
 pub directions-preserved : goal.directions-preserved

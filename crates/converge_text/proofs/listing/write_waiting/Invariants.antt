@@ -1,5 +1,6 @@
 use Rattle.std.proofs.Common.{◌-◌}
-use Rattle.converge_text.specs.Listings.{place, Fits, AreListedTo}
+use Rattle.convergence.specs.Places.{place, Fits}
+use Rattle.converge_text.specs.Listings.{AreListedTo}
 use Rattle.converge_text.proofs.listing.write_waiting.Given as goal
 
 -- the directions so far were listed

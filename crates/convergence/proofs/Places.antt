@@ -6,7 +6,7 @@ use Rattle.std.specs.Ordering.{nat_cmp, ordering_then}
 use Rattle.std.proofs.lemmas.Cmp.{ranked}
 use Rattle.net_prefix.specs.declared.addr.Addr.{Addr}
 use Rattle.session_queue.specs.Waiting.{IsPast}
-use Rattle.converge_text.specs.Listings.{place, Fits}
+use Rattle.convergence.specs.Places.{place, Fits}
 
 -- by the first number, and where that is equal by the second
 by_first : (a b c d : ℕ) (o : Ordering) → b < 4294967296 → d < 4294967296 → o ≡ nat_cmp a c →
