@@ -5,7 +5,7 @@ from typing import Dict, List, Set, Tuple, cast
 
 from ...program.language import show_address
 from ..common.checks import check_network, compares_med, some_of
-from ..common.configuration import Neighbour, short
+from ..common.configuration import Neighbour, place, short
 from ..common.igp_costs import costs_from
 from ..common.network import Network
 from .configuration import BirdConfig, Session
@@ -58,8 +58,9 @@ def stop(network: Network) -> None:
         if back is not None and back.word("update-source") not in ("", each.name):
             network.stopped.add(frozenset((name, other)))
             network.routers[name].tell(each.line, "%s: the other end has `local %s`, so that the session never comes "
-                                       "up; it is stopped here, too" % (
-                                           short(each.line.text), back.word("update-source")), False)
+                                       "up (%s); it is stopped here, too" % (
+                                           short(each.line.text), back.word("update-source"),
+                                           place(back.at("update-source"))), False)
 
 
 def check(network: Network) -> None:
@@ -96,8 +97,10 @@ def _check_order(network: Network) -> None:
 
 
 def _check_way(network: Network, name: str, other: str, each: Neighbour, has_way: bool) -> None:
-    """An internal session that is down here, since nothing links its ends."""
-    is_stopped = frozenset((name, other)) in network.stopped
+    """An internal session that is down here, since nothing links its ends. Where a link fails since OSPF does not use
+    it, that is told."""
+    is_stopped = frozenset((name, other)) in network.stopped or any(
+        link.is_unused for link in network.links.values() if not network.is_external(name, link.one))
     if not network.is_external(name, other) and not has_way and not is_stopped:
         network.routers[name].tell(each.line, "%s: nothing in the files links %s and %s, so that the session is down "
                                    "here; write `link A B M`" % (short(each.line.text), name, other))

@@ -4,7 +4,7 @@ from __future__ import annotations
 from dataclasses import dataclass, field
 from typing import Dict, List, NamedTuple, Optional, Tuple
 
-from ..common.configuration import NOWHERE, Config, Interface, Line, Neighbour, Prefix
+from ..common.configuration import NOWHERE, Config, Interface, Line, Neighbour, Prefix, Said
 from .filters import Function, Node
 
 # What the modules that both importers use say of FRR, in BIRD's words.
@@ -102,6 +102,8 @@ class Pattern(NamedTuple):
     is_out: bool
     cost: Optional[int]
     is_stub: bool
+    said: Dict[str, Said]
+    keys: Dict[str, Said]
 
 
 def interface_of(config: Config, name: str, line: Line) -> Interface:

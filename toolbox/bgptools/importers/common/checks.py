@@ -40,12 +40,32 @@ def _check_link(network: Network, link: Link) -> None:
         config.tell(link.here.line, "%s: the cost of the link to %s is %d here and %d there; a link has "
                     "one cost, %d" % (
             short(link.here.line.text), link.other, link.here.cost, link.there.cost, link.here.cost))
+    for each in [link, *link.others]:
+        _tell_difference(network, link, each)
     if not network.is_external(link.one, link.other) and link.own and link.opposite and not link.is_down:
         ends = ((config, link.here, link.own), (network.routers[link.other], link.there, link.opposite))
         if any(has_interior(end[0]) for end in ends) and not all(runs_over(*end) for end in ends):
             config.tell(link.here.line, "%s: OSPF or IS-IS does not run over the link to %s, so that FRR's interior "
                         "does not use it; here it does. Write `fail %s %s` for that" % (
                 short(link.here.line.text), link.other, link.one, link.other))
+
+
+def _tell_difference(network: Network, link: Link, each: Link) -> None:
+    """Tells a link that OSPF or IS-IS does not use, since its ends say other things."""
+    said = each.difference
+    if said is None or network.is_external(each.one, each.other) or each.here.is_down:
+        return
+    is_here = bool(said.here.file)
+    config, other = network.routers[each.one if is_here else each.other], each.other if is_here else each.one
+    said = said if is_here else said.turned()
+    head = "%s: the link to %s: %s" % (short(said.here.text), network.called(other), said)
+    if each is not link:
+        config.tell(said.here, "%s; another link of the two stands for it here" % head, False)
+    elif link.is_unused:
+        config.tell(said.here, "%s; it fails here, too" % head, False)
+    else:
+        config.tell(said.here, "%s. A session or a static route is on its addresses, so that it stays here, and the "
+                    "interior uses it; FRR's does not" % head)
 
 
 def _check_shared(network: Network) -> None:
@@ -175,7 +195,7 @@ def _denials(network: Network, name: str, lost: List[str], asn: int) -> str:
 def _run_together(network: Network, name: str, other: str) -> bool:
     """Whether OSPF or IS-IS runs over the link with a router of another AS."""
     link = network.links.get(frozenset((name, other)))
-    if link is None or link.there is None or link.own is None or link.opposite is None:
+    if link is None or link.there is None or link.own is None or link.opposite is None or link.difference:
         return False
     return runs_over(network.routers[link.one], link.here, link.own) and runs_over(network.routers[link.other],
         link.there, link.opposite)

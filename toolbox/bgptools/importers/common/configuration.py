@@ -37,6 +37,25 @@ class Told(NamedTuple):
     decides: bool = True
 
 
+Said = Tuple[str, Line]
+
+
+@dataclass
+class Hello:
+    """What a router says over an interface in OSPF or IS-IS, by the names of its settings, each with the line that
+    says so; `has_keys` are the passwords that it takes from the other end."""
+    settings: Dict[str, Said] = field(default_factory=dict)
+    has_keys: Tuple[str, ...] = ()
+
+    def word(self, name: str) -> str:
+        """What a setting says; empty where it says nothing."""
+        return self.settings.get(name, ("", NOWHERE))[0]
+
+    def at(self, name: str) -> Line:
+        """The line of a setting."""
+        return self.settings.get(name, ("", NOWHERE))[1]
+
+
 @dataclass
 class Address:
     """An address of an interface, with its subnet, and the address at the other end where that is named."""
@@ -45,6 +64,8 @@ class Address:
     line: Line
     opposite: str = ""
     subnet: Prefix = field(init=False)
+    # What the router says over it in OSPF and in IS-IS, by the protocol's name.
+    hellos: Dict[str, Hello] = field(default_factory=dict)
 
     def __post_init__(self) -> None:
         value = address(self.opposite or self.own) or 0
@@ -63,6 +84,9 @@ class Interface:
     addresses: List[Address] = field(default_factory=list)
     interior: Optional[Line] = None
     six: List[Tuple[str, str]] = field(default_factory=list)
+    # What it says of OSPF and IS-IS, by the first words of the line.
+    said: Dict[str, Said] = field(default_factory=dict)
+    keys: Dict[str, Said] = field(default_factory=dict)
 
 
 @dataclass
@@ -186,6 +210,7 @@ class Config:
         self.community_lists: Dict[str, Entries] = {}
         self.has_ospf = self.has_isis = False
         self.ospf_networks: List[Prefix] = []
+        self.ospf_areas: List[Said] = []
         self.areas: Dict[str, Line] = {}
         self.passive: Dict[str, bool] = {}
         # The words of all lines but those that make a list, and of the heads of route maps.
@@ -193,6 +218,8 @@ class Config:
         # Interfaces that other lines ask for by their names.
         self.asked: List[Tuple[Line, str]] = []
         self.ospf_redistributes: Dict[str, Line] = {}
+        # What OSPF's and IS-IS' own blocks say, by the first words of the line.
+        self.said: Dict[str, Said] = {}
         self.told: Dict[Told, None] = {}
         self.counts: "Counter[str]" = Counter()
         self.counted: Set[Line] = set()
@@ -228,6 +255,11 @@ class Config:
             self.tell(line, "%s: from-frr does not know this line" % short(line.text))
 
     # Defaults, which follow the profile and the version
+
+    @property
+    def hold_time(self) -> str:
+        """The hold time that it gives without a line, in seconds."""
+        return "180" if self.profile != "datacenter" else "9"
 
     def is_on(self, flag: str) -> bool:
         """Whether a setting of the router is on, by its line or by default."""
@@ -268,6 +300,11 @@ def short(text: str) -> str:
     """A line as it is quoted: not too long, and what cannot be shown escaped."""
     shown = "".join(each if each.isprintable() else each.encode("unicode_escape").decode() for each in text)
     return shown if len(shown) <= 70 else shown[:67] + "..."
+
+
+def place(line: Line) -> str:
+    """A line as it is named from another one."""
+    return "%s:%d" % (line.file, line.number)
 
 
 Taker = Tuple[Pattern[str], Callable[..., Optional[bool]]]

@@ -11,6 +11,7 @@ from ...program.names import mark
 from . import igp_costs, origins, sessions
 from .configuration import Config, Neighbour, Told, sets_some, short
 from .network import Link, Network
+from .opening import Opening
 from .origins import Own
 from .policy import ANY, DENY, MOST_RULES, PERMIT, Action, Match, Rules, is_, shortened, without_covered
 from .regions import Place, World, shown
@@ -30,7 +31,7 @@ class Translation:
         self.world = self._world()
         self.policies: Dict[Tuple[str, str, str], Rules[Action]] = {}
         self.owns = {name: self._owns(name) for name in network.routers}
-        sessions.check(network)
+        sessions.check(network, self._opening)
         self._routers()
         self._links_and_sessions()
         for name, config in network.routers.items():
@@ -44,6 +45,10 @@ class Translation:
 
     def _check(self) -> None:
         """Tells what routers of this kind do otherwise than a script says."""
+        raise NotImplementedError
+
+    def _opening(self, config: Config, each: Neighbour, is_external: bool) -> Opening:
+        """What an end of a session sends first, and takes of the other one."""
         raise NotImplementedError
 
     def _owns(self, name: str) -> List[Own]:
