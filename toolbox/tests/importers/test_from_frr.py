@@ -202,9 +202,11 @@ class Sessions(Told):
     def test_no_session_from_another_address(self):
         one, two = [text.replace(" neighbor 10.0.0.%d update-source lo\n" % number, "")
                     for text, number in ((border("neighbor 10.0.0.2 next-hop-self"), 2), (inner(), 1))]
-        made = self.convert({"a.conf": one, "b.conf": two}, status=1)
-        self.assert_told(made, "a.conf", at(one, "neighbor 10.0.0.2 remote-as internal"), "`update-source` is missing",
-                         "`stop 10.0.0.1 10.0.0.2`")
+        made = self.convert({"a.conf": one, "b.conf": two}, status=0)
+        self.assertIn("a.conf:%d: note: neighbor" % at(one, "neighbor 10.0.0.2 remote-as internal"), made.stderr)
+        self.assertIn("(`update-source` is missing), so that the session never comes up (b.conf:%d); it is stopped here, too"
+                      % at(two, "neighbor 10.0.0.1 remote-as internal"), made.stderr)
+        self.assertIn("\nstop 10.0.0.1 10.0.0.2\n", made.stdout)
         # It is enough that one end opens it from its loopback.
         self.assertNotIn("update-source", self.convert({"a.conf": one, "b.conf": inner()}).stderr)
 
@@ -332,8 +334,8 @@ class Lines(Told):
                       more=["interface eth0", " description uplink", " ipv6 address fe80::1/64", "log syslog",
                             "ipv6 route ::/0 Null0"])
         made = self.convert({"a.conf": text, "b.conf": inner(), "c.conf": OUTSIDE}, status=0)
-        self.assertEqual(made.stderr, "8 lines that decide no route were left out: descriptions 2, IPv6 2, timers 2, "
-                         "bfd 1, logs 1\n")
+        self.assertEqual(made.stderr, "6 lines that decide no route were left out: descriptions 2, IPv6 2, bfd 1, logs "
+                         "1\n")
 
     def test_exit_leaves_an_address_family(self):
         """And not all of `router bgp`."""

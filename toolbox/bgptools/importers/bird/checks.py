@@ -4,10 +4,11 @@ from __future__ import annotations
 from typing import Dict, List, Set, Tuple, cast
 
 from ...program.language import show_address
-from ..common.checks import check_network, compares_med, some_of
+from ..common.checks import check_network, compares_med
 from ..common.configuration import Neighbour, place, short
 from ..common.igp_costs import costs_from
 from ..common.network import Network
+from ..common.report import listed
 from .configuration import BirdConfig, Session
 from .filters import Function, Node, nodes_in
 from .rules import ENUMS, SYMBOLS, WELL_KNOWN
@@ -93,7 +94,7 @@ def _check_order(network: Network) -> None:
                and not config.is_on("bgp always-compare-med") and compares_med(network, name)]
     if ordered:
         config = network.routers[ordered[0]]
-        config.tell(config.line, "%s: %s" % (short(config.line.text), _IN_ORDER % some_of(ordered)))
+        config.tell(config.line, "%s: %s" % (short(config.line.text), _IN_ORDER % listed(ordered)), is_certain=False)
 
 
 def _check_way(network: Network, name: str, other: str, each: Neighbour, has_way: bool) -> None:
@@ -143,6 +144,5 @@ def _is_unknown(node: Node, known: Set[str]) -> bool:
 
 
 def some_prefixes(found: "List[tuple[int, int]]") -> str:
-    """The first of some prefixes, and how many more there are."""
-    first = "%s/%d" % (show_address(found[0][0]), found[0][1])
-    return first + (" and %d prefixes more" % (len(found) - 1) if len(found) > 1 else "")
+    """Some prefixes, in a text that is told."""
+    return listed(["%s/%d" % (show_address(value), length) for value, length in found])

@@ -69,12 +69,12 @@ class BirdConfig(Config):
         self.patterns: List[Pattern] = []
         self.stubs: List[Prefix] = []
 
-    def tell(self, line: Line, text: str, decides: bool = True) -> None:
+    def tell(self, line: Line, text: str, decides: bool = True, is_certain: bool = True) -> None:
         """Keeps what is not taken over; what is said of FRR in BIRD's words."""
         about, colon, rest = text.partition(": ")
         for other, said in _SAID:
             about, rest = (about, rest.replace(other, said)) if colon else (about.replace(other, said), rest)
-        super().tell(line, about + colon + rest, decides)
+        super().tell(line, about + colon + rest, decides, is_certain)
 
     def is_on(self, flag: str) -> bool:
         """Whether a setting of the router is on. Of FRR's only those of its sessions are known here."""

@@ -10,7 +10,8 @@ from ..common.configuration import short
 from ..common.sessions import ROLES
 from .configuration import ACCEPT, REJECT, BirdConfig, Policy, Session
 from .filters import TYPES, Function, Node, Wrong, expression_of, statements_of
-from .igp import OFF, SWITCH, direct, kernel, leave, ospf, resolved, static
+from .igp import direct, kernel, leave, ospf, resolved, static
+from .igp_settings import OFF, SWITCH
 from .lexer import Item, Word, items_of, words_in
 
 _ADDRESS = r"([0-9]+(?:\.[0-9]+){3})"

@@ -88,6 +88,9 @@ def _isis(one: Hello, other: Hello, _: Tuple[str, str], is_pair: bool) -> Option
     here, there = one.word("network"), other.word("network")
     if here != there:
         return _differs("IS-IS", one, other, "network", "the network is %s here and %s there" % (here, there))
+    if here == "point-to-point" and one.word("handshake") != other.word("handshake"):
+        return _differs("IS-IS", one, other, "handshake", "the handshake is %s here and %s there" % (
+            one.word("handshake"), other.word("handshake")))
     if one.word("password") != other.word("password"):
         return _differs("IS-IS", one, other, "password", "the ends have different passwords")
     if one.word("system") == other.word("system"):

@@ -8,6 +8,7 @@ from ...program.language import by_address
 from .configuration import Config, Neighbour, short
 from .igp import has_interior, interface_with, is_loopback, knows, runs_over
 from .network import Link, Network
+from .report import listed
 
 # So many rules of a kind are written out in what is told.
 SHOWN = 4
@@ -95,7 +96,7 @@ def _check_areas(network: Network) -> None:
         other = next((each for each in areas if each[0] != areas[0][0]), None)
         if other:
             other[1].tell(other[2], "%s: AS %d has several areas, and OSPF prefers ways inside of one; here the "
-                          "costs alone count" % (short(other[2].text), asn))
+                          "costs alone count" % (short(other[2].text), asn), is_certain=False)
 
 
 def _check_names(network: Network) -> None:
@@ -105,10 +106,6 @@ def _check_names(network: Network) -> None:
         if first is not config:
             config.tell(config.hostname_line, "%s: it is the name of %s, too; name them by address" % (
                 config.hostname_line.text, first.name), False)
-
-
-def some_of(names: List[str]) -> str:
-    return names[0] if len(names) == 1 else "%s and %d more" % (names[0], len(names) - 1)
 
 
 def external_peers(network: Network, name: str) -> List[str]:
@@ -128,7 +125,7 @@ def _check_cluster(network: Network, name: str, config: Config) -> None:
     line = config.cluster_line
     if config.cluster and name not in network.reflectors:
         config.tell(line, "%s: FRR drops routes that passed this cluster, and here a router without clients does not" %
-                    short(line.text))
+                    short(line.text), is_certain=False)
 
 
 def _check_reflected(network: Network, name: str, other: str, each: Neighbour) -> None:
@@ -149,7 +146,7 @@ def _check_reflected(network: Network, name: str, other: str, each: Neighbour) -
         config.tell(each.line, "%s: nothing in the files makes the way to this address known to %s, which FRR then "
                     "does not resolve as the next hop of what is reflected from there; here it is. Let OSPF carry its "
                     "subnet; no rule says what FRR does, since none matches the router that a route is reflected from"
-                    % (short(each.line.text), some_of(lost)))
+                    % (short(each.line.text), listed(lost)))
 
 
 # Next hops at a border
@@ -172,10 +169,10 @@ def _check_next_hop(network: Network, name: str, other: str, each: Neighbour) ->
         config.tell(each.line, "%s: nothing in the files makes the way to this next hop known to %s, which FRR then "
                     "does not resolve, so that the routes are not used there; here they are. FRR needs "
                     "`next-hop-self` (write %s), or the subnet in OSPF; %s" % (
-                        told, some_of(lost), heading, _denials(network, name, lost, network.asn_of(other))))
+                        told, listed(lost), heading, _denials(network, name, lost, network.asn_of(other))))
     elif len(_borders(network, config.asn)) > 1 and {"static", "external", "bgp"} & set(ways.values()):
         config.tell(each.line, "%s: the interior reaches this next hop by an external or static route, whose cost "
-                    "counts in FRR; here the costs of the links to it count" % told)
+                    "counts in FRR; here the costs of the links to it count" % told, is_certain=False)
     elif any(network.routers[near].subnet_of(where) is None for near in _near(network, name, other)):
         config.tell(each.line, "%s: %s has links to several routers of AS %d, and is one next hop here, which each "
                     "router reaches by the nearest link; in FRR each link has its own. "
@@ -187,9 +184,8 @@ def _denials(network: Network, name: str, lost: List[str], asn: int) -> str:
     direct = [there for there, _ in network.peers_of(name) if there in lost]
     if not direct:
         return "no rule says what FRR does of what a reflector sends on"
-    rules = " ".join("`rule %s %s out first %d deny`" % (name, there, asn) for there in direct[:SHOWN])
-    more = ", and so towards the %d others" % (len(direct) - SHOWN) if len(direct) > SHOWN else ""
-    return "for what FRR does write %s%s" % (rules, more)
+    rules = ["`rule %s %s out first %d deny`" % (name, there, asn) for there in direct]
+    return "for what FRR does write %s" % listed(rules, SHOWN)
 
 
 def _run_together(network: Network, name: str, other: str) -> bool:

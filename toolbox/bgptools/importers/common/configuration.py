@@ -30,11 +30,12 @@ ALL: Prefix = (0, 0)
 
 
 class Told(NamedTuple):
-    """What is not taken over, and whether it may decide a route."""
+    """What is not taken over, whether it may decide a route, and whether it is sure to change this network."""
     file: str
     line: int
     text: str
     decides: bool = True
+    is_certain: bool = True
 
 
 Said = Tuple[str, Line]
@@ -226,9 +227,10 @@ class Config:
 
     # What is told and counted
 
-    def tell(self, line: Line, text: str, decides: bool = True) -> None:
-        """Keeps what is not taken over, with the line that it is about."""
-        self.told[Told(line.file, line.number, text, decides)] = None
+    def tell(self, line: Line, text: str, decides: bool = True, is_certain: bool = True) -> None:
+        """Keeps what is not taken over, with the line that it is about; what is sure to change this network is told
+        before what may."""
+        self.told[Told(line.file, line.number, text, decides, is_certain)] = None
 
     def count(self, said: str, how_many: int = 1) -> None:
         """Counts lines that decide no route."""

@@ -101,7 +101,7 @@ class Network:
         found = max(free, key=by_address)
         is_inside = other.asn == config.asn
         what = "FRR brings no session of the two up" if is_inside else "in FRR the router-ids are compared last"
-        config.tell(config.line, "%s: the router-id %s is that of %s, too; this router is %s here. %s" % (
+        config.tell(config.line, "%s: the router-id %s is that of %s, too; this router is `%s` here. %s" % (
             short(config.line.text or "router"), name, other.name, found, what))
         return found
 

@@ -79,7 +79,8 @@ def _isis(config: Config, interface: Interface) -> Hello:
     style = whole.get("metric-style", ("wide", at))
     settings = {"network": said.get("isis network", ("broadcast", line)), "password": said.get("password", ("", line)),
                 "levels": (both, levels[1]), "area": (net[:-18], at), "system": (net[-17:-3], at),
-                "style": (STYLES[style[0]], style[1])}
+                "style": (STYLES[style[0]], style[1]),
+                "handshake": said.get("handshake", ("three-way", line))}
     for level, name in (("1", "area-password"), ("2", "domain-password")):
         settings["password of level " + level] = whole.get(name, ("", at))
     return Hello(settings)

@@ -5,9 +5,10 @@ from __future__ import annotations
 from typing import Dict, List
 
 from ...program.language import address
-from ..common.checks import check_network, compares_med, external_peers, some_of
+from ..common.checks import check_network, compares_med, external_peers
 from ..common.configuration import Config, Neighbour, short
 from ..common.network import Network
+from ..common.report import listed
 from .rules import requires_policy
 
 # What FRR does of MED without `bgp deterministic-med`.
@@ -50,7 +51,7 @@ def _check_choice(network: Network) -> None:
         config = network.routers[oldest[0]]
         config.tell(config.line, "%s: of external routes that are alike FRR keeps the one that came first, and here "
                     "the lower identifier wins; so it is at %s. "
-                    "`bgp bestpath compare-routerid` makes FRR do the same" % (short(config.line.text), some_of(oldest)))
+                    "`bgp bestpath compare-routerid` makes FRR do the same" % (short(config.line.text), listed(oldest)), is_certain=False)
     _check_order_of_med(network)
 
 
@@ -63,13 +64,13 @@ def _check_order_of_med(network: Network) -> None:
     for name in by_line:
         _, line = ordered[name].flags["bgp deterministic-med"]
         ordered[name].tell(line, "%s: FRR %s. `bgp deterministic-med` makes FRR do the same" % (
-            short(line.text), _IN_ORDER))
+            short(line.text), _IN_ORDER), is_certain=False)
     grouped = [name for name in ordered if name not in by_line and compares_med(network, name)]
     if grouped:
         config = ordered[grouped[0]]
         config.tell(config.line, "%s: without `bgp deterministic-med`, which is off by default but in the datacenter "
                     "profile, FRR %s; so it is at %s. `bgp deterministic-med` makes FRR do the same" % (
-                        short(config.line.text), _IN_ORDER, some_of(grouped)))
+                        short(config.line.text), _IN_ORDER, listed(grouped)), is_certain=False)
 
 
 def _check_required(network: Network, name: str, config: Config) -> None:

@@ -59,6 +59,10 @@ def _isis(config: Config, interface: Interface, line: Line, no: Optional[str], n
     return None
 
 
+def _handshake(config: Config, interface: Interface, line: Line, no: Optional[str]) -> None:
+    interface.said["handshake"] = ("two-way" if no else "three-way", line)
+
+
 # The blocks of the protocols
 
 def _authenticates(config: Config, line: Line, area: str, how: Optional[str]) -> Optional[bool]:
@@ -129,7 +133,8 @@ Rows = List[Tuple[str, Callable[..., Optional[bool]]]]
 INTERFACE: Rows = [
     (r"(no )?(?:ip )?ospf (hello-interval|dead-interval|priority|network|authentication|authentication-key|"
      r"message-digest-key)(?: (.+))?", _ospf),
-    (r"(no )?isis (network|password|circuit-type)(?: (.+))?", _isis)]
+    (r"(no )?isis (network|password|circuit-type)(?: (.+))?", _isis),
+    (r"(no )?isis three-way-handshake", _handshake)]
 OSPF: Rows = [
     (r"(?:ospf )?router-id (\S+)", _identifier), (r"area (\S+) authentication(?: (message-digest))?", _authenticates),
     (r"area (\S+) (stub|nssa)(?: .+)?", _kind), (r"neighbor (\S+)(?: .+)?", _neighbour)]

@@ -24,7 +24,7 @@ COUNTED.update({
         (r"(ip )?ospf (retransmit-interval|transmit-delay|prefix-suppression)", "timers"),
         (r"ip ospf (mtu-ignore|passive)", "OSPF settings"),
         (r"isis (hello-\S+|csnp-interval|psnp-interval|passive|priority|"
-         r"three-way-handshake|fast-reroute)|ipv6 router isis", "IS-IS settings"),
+         r"fast-reroute)|ipv6 router isis", "IS-IS settings"),
         ("mpls|link-params|evpn|link-detect|mtu|ip nhrp", "settings of links")),
     "bgp": table(
         ("bgp (keepalive|update-delay|coalesce-time|route-map "
