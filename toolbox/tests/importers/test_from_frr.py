@@ -108,8 +108,8 @@ class NextHops(Told):
         third = router(65001, "10.0.0.3", "eth0 10.0.2.2/30", ospf="10.0.0.0/16", bgp=[
             "neighbor 10.0.0.1 remote-as internal", "neighbor 10.0.0.1 update-source lo"])
         made = self.convert({"a.conf": text, "b.conf": inner(), "c.conf": OUTSIDE, "d.conf": third}, status=1)
-        self.assert_told(made, "a.conf", at(text, "neighbor 10.9.0.2 remote-as 65002"), "10.0.0.2 and 1 more",
-                         "`rule 10.0.0.1 10.0.0.2 out first 65002 deny` `rule 10.0.0.1 10.0.0.3 out first 65002 deny`")
+        self.assert_told(made, "a.conf", at(text, "neighbor 10.9.0.2 remote-as 65002"), "10.0.0.2 and 1 more (`--all` lists them)",
+                         "`rule 10.0.0.1 10.0.0.2 out first 65002 deny`, `rule 10.0.0.1 10.0.0.3 out first 65002 deny`")
 
     def test_ways_to_make_it_known(self):
         subnet = "10.9.0.0/30"
@@ -488,4 +488,4 @@ class Layouts(Told):
         one, two = OUTSIDE, router(65003, "10.0.0.9", "eth0 10.8.0.2/30")
         made = self.convert({"a.conf": one, "b.conf": two}, status=1)
         self.assertIn("router 10.0.0.9 65002\nrouter 10.8.0.2 65003\n", made.stdout)
-        self.assert_told(made, "b.conf", at(two, "router bgp 65003"), "router-id 10.0.0.9", "is 10.8.0.2 here")
+        self.assert_told(made, "b.conf", at(two, "router bgp 65003"), "router-id 10.0.0.9", "is `10.8.0.2` here")

@@ -11,11 +11,12 @@ from ...program.mistakes import CHANGED, WRONG
 from .configuration import Told
 from .network import Network
 
-# What the same is told of more lines than these, is told of the first one.
-MOST_ALIKE = 4
+# What is told of more lines of a file than these, but for addresses, is told of the first one.
+MOST_ALIKE = 8
 # A list in a text stands between these, which no text of a file has: what cannot be shown is escaped there.
 _BEGIN, _PART, _END = "\x02", "\x1f", "\x03"
 _LIST = re.compile("%s([0-9]+):([^%s]*)%s" % (_BEGIN, _END, _END))
+_QUADS = re.compile(r"[0-9]+(?:\.[0-9]+){3}(?:/[0-9]+)?")
 _ADDRESS = re.compile(r"(?<![\d.])(?<!-id )(?<!identifier )[0-9]+(?:\.[0-9]+){3}(?![\d/]|\.\d)")
 
 
@@ -52,18 +53,23 @@ def _names(network: Network) -> Dict[str, str]:
 
 def _texts(told: List[Told], names: Dict[str, str], lists_all: bool) -> List[str]:
     """What is told, in its order."""
-    alike: Dict[Tuple[bool, str], List[Told]] = {}
+    alike: Dict[Tuple[str, bool, str], List[Told]] = {}
     for each in told:
-        alike.setdefault((each.decides, each.text.partition(": ")[2] or each.text), []).append(each)
+        alike.setdefault(_kind(each), []).append(each)
     found = []
     for each in told:
-        same = alike[each.decides, each.text.partition(": ")[2] or each.text]
+        same = alike[_kind(each)]
         is_short = len(same) > MOST_ALIKE and not lists_all
         if not is_short or same[0] is each:
-            more = " (so it is at %d other lines; `--all` lists them)" % (len(same) - 1) if is_short else ""
+            more = " (so it is at %d other lines of this file; `--all` lists them)" % (len(same) - 1) if is_short else ""
             found.append("%s: %s: %s%s" % ("%s:%d" % (each.file, each.line) if each.line else each.file, "not taken over"
                                            if each.decides else "note", _shown(each.text, names, lists_all), more))
     return found
+
+
+def _kind(each: Told) -> Tuple[str, bool, str]:
+    """What is the same of things that are told once: all but the lines that they quote, addresses and prefixes."""
+    return each.file, each.decides, _QUADS.sub("*", each.text.partition(": ")[2] or each.text)
 
 
 def _shown(text: str, names: Dict[str, str], lists_all: bool) -> str:

@@ -59,7 +59,7 @@ def _ospf(config: Config, interface: Interface, area: Said) -> Hello:
 
 
 def _keys(interface: Interface, settings: Dict[str, Said]) -> Tuple[str, ...]:
-    """The passwords that an end takes; the one that it sends is put into the settings."""
+    """The password that an end takes, which is the one that it sends, its last one; it is put into the settings."""
     how, line = settings["authentication"]
     found: List[Said] = [("none", line)]
     if how == "simple":
@@ -67,7 +67,7 @@ def _keys(interface: Interface, settings: Dict[str, Said]) -> Tuple[str, ...]:
     elif how == "cryptographic":
         found = [("%s %s" % (key, secret), at) for key, (secret, at) in interface.keys.items()] or found
     settings["key"] = found[-1]
-    return tuple(each for each, _ in found)
+    return (found[-1][0],)
 
 
 def _isis(config: Config, interface: Interface) -> Hello:
