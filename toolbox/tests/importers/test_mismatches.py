@@ -3,6 +3,7 @@ says what a row is."""
 import re
 
 from common import DATA, Case, inside
+from frr import Told, at, router
 
 from simtools import mismatches
 
@@ -59,3 +60,122 @@ class Mismatches(Case):
 
     def test_bird(self):
         self.assert_rows("bird")
+
+
+def interior(number, *interfaces, bgp=(), more=()):
+    """A router of AS 65001 with OSPF everywhere, and these lines of interfaces: `NAME ADDRESS` and what stands below."""
+    lines = ["hostname r%d" % number, "interface lo", " ip address 10.0.0.%d/32" % number]
+    for (name, where), *below in interfaces:
+        lines += ["interface " + name, " ip address " + where, *(" " + line for line in below)]
+    lines += ["router ospf", " network 10.0.0.0/8 area 0", "router bgp 65001", " bgp router-id 10.0.0.%d" % number,
+              *(" " + line for line in bgp), *more]
+    return "\n".join(lines) + "\n"
+
+
+HELLO = "ip ospf hello-interval 5"
+
+
+class OtherUses(Told):
+    """Links that OSPF does not use, and that something else does."""
+
+    def two(self, here=(), there=(), **more):
+        """Two routers with one link, whose hello intervals differ; `here` and `there` are lines of sessions."""
+        return {"r1.conf": interior(1, (("eth0", "10.1.0.1/30"), HELLO), bgp=here, **more),
+                "r2.conf": interior(2, (("eth0", "10.1.0.2/30"),), bgp=there)}
+
+    def test_nothing_else_uses_it(self):
+        files = self.two()
+        made = self.convert(files, status=0)
+        self.assertEqual(made.stderr, "r1.conf:%d: note: ip ospf hello-interval 5: the link to r2: OSPF finds no neighbour "
+                         "over it: the hello interval is 5 here and 10 there (r2.conf:%d); it fails here, too\n" % (
+                             at(files["r1.conf"], HELLO), at(files["r2.conf"], "interface eth0")))
+        self.assertEqual(made.stdout, "router 10.0.0.1 65001\n# name 10.0.0.1 r1\nrouter 10.0.0.2 65001\n# name 10.0.0.2 "
+                         "r2\nlink 10.0.0.1 10.0.0.2 10\nfail 10.0.0.1 10.0.0.2\n")
+
+    def test_a_session_on_its_addresses(self):
+        files = self.two(["neighbor 10.1.0.2 remote-as internal"], ["neighbor 10.1.0.1 remote-as internal"])
+        made = self.convert(files, status=1)
+        self.assertNotIn("fail", made.stdout)
+        self.assert_told(made, "r1.conf", at(files["r1.conf"], HELLO), "the link to r2", "(r2.conf:", "stays here")
+
+    def test_a_static_route(self):
+        for route in ("ip route 198.51.100.0/24 10.1.0.2", "ip route 198.51.100.0/24 eth0"):
+            made = self.convert(self.two(more=[route]), status=1)
+            self.assertNotIn("fail", made.stdout, route)
+        self.assertIn("fail", self.convert(self.two(more=["ip route 198.51.100.0/24 Null0"]), status=0).stdout)
+
+    def test_another_link_of_the_two(self):
+        """The one that OSPF uses stands for both, though it costs more."""
+        other = (("eth1", "10.1.0.5/30"), "ip ospf cost 30"), (("eth1", "10.1.0.6/30"), "ip ospf cost 30")
+        made = self.convert({"r1.conf": interior(1, (("eth0", "10.1.0.1/30"), HELLO), other[0]),
+                             "r2.conf": interior(2, (("eth0", "10.1.0.2/30"),), other[1])}, status=1)
+        self.assertIn("\nlink 10.0.0.1 10.0.0.2 30\n", made.stdout)
+        self.assertNotIn("fail", made.stdout)
+        self.assertIn("another link of the two stands for it here", made.stderr)
+
+    def test_a_subnet_with_a_third_router(self):
+        """Of three routers on a subnet the third becomes the designated one."""
+        silent = {"r%d.conf" % number: interior(number, (("eth0", "10.1.0.%d/24" % number), "ip ospf priority 0"))
+                  for number in (1, 2)}
+        self.assertIn("fail 10.0.0.1 10.0.0.2\n", self.convert(silent, status=0).stdout)
+        silent["r3.conf"] = interior(3, (("eth0", "10.1.0.3/24"),))
+        self.assertNotIn("fail", self.convert(silent).stdout)
+
+
+class OtherSessions(Told):
+    """Rules of sessions that the rows do not have."""
+
+    def convert_ends(self, here=(), there=(), **given):
+        """A session of two ASes with these lines below `router bgp`."""
+        return self.convert({"a.conf": router(65001, "10.0.0.1", "eth0 10.9.0.1/30", bgp=[
+            "neighbor 10.9.0.2 remote-as 65002", *here]), "b.conf": router(65002, "10.0.0.9", "eth0 10.9.0.2/30", bgp=[
+                "neighbor 10.9.0.1 remote-as 65001", *there])}, **given)
+
+    def test_what_a_group_says(self):
+        group = ["neighbor ALL peer-group", "neighbor ALL timers 3 9", "neighbor 10.9.0.1 peer-group ALL"]
+        made = self.convert_ends(["bgp minimum-holdtime 10"], group, status=0)
+        self.assertIn("stop 10.0.0.1 10.0.0.9\n", made.stdout)
+        self.assertIn("it takes a hold time of 10 seconds and more, and the other end offers 9", made.stderr)
+        self.assertNotIn("stop", self.convert_ends(["bgp minimum-holdtime 9"], group, status=0).stdout)
+
+    def test_timers_of_the_datacenter_profile(self):
+        """There a hold time is 9 seconds without a line."""
+        self.assertIn("stop", self.convert_ends(["bgp minimum-holdtime 10", "frr defaults datacenter"], [
+            "frr defaults datacenter"]).stdout)
+
+    def test_bfd_that_a_session_waits_for(self):
+        self.assertIn("stop 10.0.0.1 10.0.0.9\n", self.convert_ends(["neighbor 10.9.0.2 bfd strict"], status=0).stdout)
+        self.assertNotIn("stop", self.convert_ends(["neighbor 10.9.0.2 bfd strict"], ["neighbor 10.9.0.1 bfd"]).stdout)
+
+    def test_values_that_are_none_are_told(self):
+        for line in ("timers bgp 3 2", "neighbor 10.9.0.2 timers 3 70000", "bgp minimum-holdtime 0",
+                     "neighbor 10.9.0.2 ttl-security hops 0"):
+            made = self.convert_ends([line], status=1)
+            self.assertIn("not taken over: %s: from-frr does not know this line" % line, made.stderr)
+            self.assertNotIn("stop", made.stdout)
+
+    def test_values_of_interfaces_that_are_none_are_told(self):
+        for line in ("ip ospf hello-interval 0", "ip ospf priority 256", "ip ospf network none",
+                     "ip ospf message-digest-key 0 md5 a", "isis circuit-type level-3", "isis password a"):
+            made = self.convert({"a.conf": interior(1, (("eth0", "10.1.0.1/30"), line))}, status=1)
+            self.assert_told(made, "a.conf", 6, "from-frr does not know this line")
+
+    def test_what_bird_requires(self):
+        """BIRD 2.0.12 has `require roles` alone; its later manuals say which capability each asks for."""
+        one = """router id 10.0.0.1;
+protocol bgp x { local 10.1.0.1 as 65001; neighbor 10.1.0.2 as 65002;
+%s
+ipv4 { import all; export all; }; }
+"""
+        other = one.replace("10.0.0.1", "10.0.0.2").replace("10.1.0.1 as 65001", "10.1.0.2 as 65002").replace(
+            "neighbor 10.1.0.2 as 65002", "neighbor 10.1.0.1 as 65001")
+        for here, there, is_up in (("require hostname;", "", False), ("require hostname;", "advertise hostname;", True),
+                                   ("require as4;", "", True), ("require as4;", "enable as4 off;", False),
+                                   ("require route refresh;", "capabilities off;", False),
+                                   ("require graceful restart;", "graceful restart off;", False)):
+            with self.subTest(here=here, there=there):
+                place = "%d" % len(list(self.folder.iterdir()))
+                self.file(place + "/a.conf", one % here)
+                self.file(place + "/b.conf", other % there)
+                made = inside("from-bird", self.folder / place)
+                self.assertEqual(("stop 10.0.0.1 10.0.0.2\n" not in made.stdout, made.returncode), (is_up, 0), made.stderr)

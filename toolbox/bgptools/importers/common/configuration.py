@@ -2,6 +2,7 @@
 not taken over."""
 from __future__ import annotations
 
+import re
 from collections import Counter
 from dataclasses import dataclass, field
 from typing import Callable, Dict, List, NamedTuple, Optional, Pattern, Set, Tuple
@@ -254,7 +255,7 @@ class Config:
         elif positive != text and (is_off or line.undoes or consequence(kind, positive) is not None):
             self.count("what is off by default")
         else:
-            self.tell(line, "%s: from-frr does not know this line" % short(line.text))
+            self.tell(line, "%s: %s" % (short(line.text), no_address(text) or "from-frr does not know this line"))
 
     # Defaults, which follow the profile and the version
 
@@ -302,6 +303,15 @@ def short(text: str) -> str:
     """A line as it is quoted: not too long, and what cannot be shown escaped."""
     shown = "".join(each if each.isprintable() else each.encode("unicode_escape").decode() for each in text)
     return shown if len(shown) <= 70 else shown[:67] + "..."
+
+
+_DOTTED = re.compile(r"(?<![\w.:])([0-9]+(?:\.[0-9]+){2,3})(?:/[0-9]+)?(?![\w.:])")
+
+
+def no_address(text: str) -> str:
+    """What is wrong with the first word of a line that is meant for an address and is none; else empty."""
+    wrong = next((found for found in _DOTTED.findall(text) if address(found) is None), "")
+    return "`%s` is no address, four numbers of 0 to 255 as in 10.0.0.1" % short(wrong) if wrong else ""
 
 
 def place(line: Line) -> str:

@@ -10,7 +10,7 @@ from ...program.language import address, number, show_address
 from ...program.names import TOO_LONG, fits
 from ..common.configuration import (
     NOWHERE, Address, Config, Entries, Entry, Interface, Item, Line, Neighbour, Origin, Static, Taker, loose_prefix,
-    short, taken
+    no_address, short, taken
 )
 from . import interior
 from .communities import given, numbers_of
@@ -95,8 +95,8 @@ def _leave_line(config: Config, block: Block, line: Line) -> None:
     if found and found.group(2) in config.neighbours_six:
         config.count("IPv6")
     elif found and not (found.group(1) or found.group(2) in config.neighbours or found.group(2) in config.groups):
-        config.tell(line, "%s: no line before makes this neighbor, by `remote-as` or `peer-group`; FRR does not take "
-                    "it" % short(line.text))
+        config.tell(line, "%s: %s" % (short(line.text), no_address(found.group(2)) or "no line before makes this neighbor, "
+                    "by `remote-as` or `peer-group`; FRR does not take it"))
     else:
         config.leave_out("neighbour" if found else block.kind, line, no + said, is_off)
 
@@ -438,11 +438,14 @@ def _filter(here: Neighbour, no: Optional[str], line: Line, kind: str, name: str
         here.filters[kind, way] = (name, line)
 
 
-def _setting(here: Neighbour, no: Optional[str], line: Line, name: str, said: str) -> None:
+def _setting(here: Neighbour, no: Optional[str], line: Line, name: str, said: str) -> Optional[bool]:
     if no:
         here.words.pop(name, None)
+    elif name == "update-source" and no_address(said):
+        return False
     else:
         here.words[name] = (said, line)
+    return None
 
 
 def _timers(here: Neighbour, no: Optional[str], line: Line, alive: Optional[str], hold: Optional[str]) -> Optional[bool]:
