@@ -1,7 +1,8 @@
 """Two routers whose lines for one another are the same or not, with the answer of real ones: FRR's and BIRD's.
 
 A file has a row a line, `ANSWER | KIND | LINES OF r1 | LINES OF r2`, lines with ` / ` between them. PEER is the
-address of the other end. KIND is `ebgp`, `ibgp`, `ospf` or `isis`; its lines stand under the neighbour or interface,
+address of the other end. KIND is `ebgp`, `ibgp`, `bare` (inside an AS, without BIRD's
+`protocol direct`), `ospf` or `isis`; its lines stand under the neighbour or interface,
 those that begin with `router` in the block around it, BIRD's with `area` or `channel` in that one, and those with
 `protocol` at the top."""
 from __future__ import annotations
@@ -81,10 +82,11 @@ def bird(row: Row, end: int, hasty: str = "") -> str:
     """The configuration of an end, 1 or 2, for BIRD. `hasty` are lines of a session that make it quick."""
     given, other = _parted(row.ends[end - 1], ("router", "area", "channel", "protocol"), end), 3 - end
     said = {word: [" %s;" % line for line in lines] for word, lines in given.items()}
-    is_bgp = row.kind in ("ebgp", "ibgp")
+    is_bgp = row.kind in ("ebgp", "ibgp", "bare")
     base = "10.1.0" if is_bgp else "10.0.0"
     lines = ["router id 10.0.0.%d;" % end, "protocol device { }", "protocol kernel { ipv4 { export all; }; }",
              "protocol static own { ipv4; route 198.51.100.%d/32 blackhole; }" % end,
+             *(["protocol direct { ipv4; }"] if row.kind in ("ebgp", "ibgp") else []),
              *("protocol " + line for line in given["protocol"])]
     if row.kind == "ospf":
         area = next((line for line in given["area"] if line.isdigit()), "0")

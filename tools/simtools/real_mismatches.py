@@ -82,7 +82,7 @@ def start_bird(row: Row, end: int) -> None:
 
 def is_up(row: Row) -> bool:
     """Whether both ends have the other one's route."""
-    told = "198.51.100.%d" if row.kind in ("ebgp", "ibgp") else "10.0.0.%d"
+    told = "198.51.100.%d" if row.kind in ("ebgp", "ibgp", "bare") else "10.0.0.%d"
     found = [run("ip", "-n", space(row, end), "route", "show", told % (3 - end), may_fail=True) for end in (1, 2)]
     # BIRD gives the kernel also a route of which it does not resolve the next hop, as `unreachable`.
     return all(each and not each.startswith("unreachable") for each in found)

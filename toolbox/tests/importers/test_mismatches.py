@@ -35,9 +35,9 @@ class Mismatches(Case):
 
     def assert_rows(self, daemon):
         rows = mismatches.rows_of(ROWS / (daemon + ".txt"))
-        plain = {row.kind: self.convert(row, daemon) for row in rows if row.ends == ([], [])}
+        plain = {row.kind: self.convert(row, daemon) for row in rows if row.is_up and row.ends == ([], [])}
         self.assertEqual({made.returncode for made in plain.values()}, {0})
-        for row in rows:
+        for row in [row for row in rows if row.kind != "bare"]:
             with self.subTest(row="%s.txt:%d" % (daemon, row.number)):
                 made, script = self.convert(row, daemon), plain[row.kind].stdout
                 if not row.is_up and WRITE not in made.stderr:
@@ -60,6 +60,16 @@ class Mismatches(Case):
 
     def test_bird(self):
         self.assert_rows("bird")
+
+    def test_next_hops_that_bird_does_not_resolve(self):
+        """The session is up, and its routes are unreachable at an end that does not resolve them, which is told."""
+        rows = [row for row in mismatches.rows_of(ROWS / "bird.txt") if row.kind == "bare"]
+        self.assertGreater(len(rows), 5)
+        for row in rows:
+            with self.subTest(row="bird.txt:%d" % row.number):
+                made = self.convert(row, "bird")
+                self.assertEqual("BIRD does not resolve the next hop" in made.stderr, not row.is_up)
+                self.assertNotIn("\nstop", made.stdout)
 
 
 def interior(number, *interfaces, bgp=(), more=()):
