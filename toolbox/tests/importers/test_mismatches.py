@@ -123,6 +123,15 @@ class OtherUses(Told):
         self.assertNotIn("fail", made.stdout)
         self.assertIn("another link of the two stands for it here", made.stderr)
 
+    def test_masks_that_differ(self):
+        """They are no link here; where one has not the other's address in its subnet, they are none in FRR, either."""
+        files = {"r1.conf": interior(1, (("eth0", "10.1.0.1/30"),)), "r2.conf": interior(2, (("eth0", "10.1.0.2/29"),))}
+        made = self.convert(files, status=1)
+        self.assertNotIn("link", made.stdout)
+        self.assert_told(made, "r1.conf", 5, "the mask is of 30 bits here and of 29 at r2 (r2.conf:5)", "`link 10.0.0.1 10.0.0.2 10`")
+        files["r2.conf"] = interior(2, (("eth0", "10.1.0.5/29"),))
+        self.assert_quiet(self.convert(files))
+
     def test_a_subnet_with_a_third_router(self):
         """Of three routers on a subnet the third becomes the designated one."""
         silent = {"r%d.conf" % number: interior(number, (("eth0", "10.1.0.%d/24" % number), "ip ospf priority 0"))

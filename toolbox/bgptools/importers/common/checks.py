@@ -2,10 +2,10 @@
 with what to write."""
 from __future__ import annotations
 
-from typing import Dict, List, Optional
+from typing import Dict, List, Optional, Tuple
 
-from ...program.language import by_address
-from .configuration import Config, Neighbour, short
+from ...program.language import address, by_address, contains
+from .configuration import Address, Config, Neighbour, Prefix, masked, place, short
 from .igp import has_interior, interface_with, is_loopback, knows, runs_over
 from .network import Link, Network
 from .report import listed
@@ -19,6 +19,7 @@ def check_network(network: Network) -> None:
     for link in network.links.values():
         _check_link(network, link)
     _check_shared(network)
+    _check_masks(network)
     _check_names(network)
     _check_areas(network)
     for name, config in network.routers.items():
@@ -83,6 +84,25 @@ def _check_shared(network: Network) -> None:
         if keeping:
             config.tell(line, "%s: %s has sessions with several on the subnet, and FRR tells them each other's "
                         "address as next hop; here it puts itself" % (short(line.text), keeping[0]))
+
+
+def _check_masks(network: Network) -> None:
+    """Interfaces that have each other's address in their subnets, which are not the same: they are no link here."""
+    wide = [(name, each) for name, config in network.routers.items() for interface in config.interfaces.values()
+            for each in interface.addresses if each.own and each.length < 32 and not each.opposite
+            and not is_loopback(interface)]
+    by_subnet: Dict[Prefix, List[Tuple[str, Address]]] = {}
+    for name, each in wide:
+        by_subnet.setdefault(each.subnet, []).append((name, each))
+    lengths = sorted({subnet[1] for subnet in by_subnet})
+    for name, each in wide:
+        for length in (length for length in lengths if length < each.length):
+            for other, there in by_subnet.get(masked(address(each.own) or 0, length), ()):
+                if other != name and contains(each.subnet, (address(there.own) or 0, 32)):
+                    network.routers[name].tell(each.line, "%s: the mask is of %d bits here and of %d at %s (%s), so that "
+                                               "the two are no link here; write one mask, or `link %s %s 10`" % (
+                                                   short(each.line.text), each.length, there.length, network.called(other),
+                                                   place(there.line), name, other))
 
 
 def _peers_among(network: Network, name: str, names: List[str]) -> List[str]:
