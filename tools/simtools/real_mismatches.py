@@ -31,7 +31,8 @@ HASTY = {"frr": "timers connect 1", "bird": " connect delay time 1; connect retr
 
 def run(*words: str, may_fail: bool = False) -> str:
     """What a command prints."""
-    return subprocess.run(words, check=not may_fail, stdout=subprocess.PIPE, stderr=subprocess.DEVNULL, text=True).stdout
+    ran = subprocess.run(words, check=not may_fail, stdout=subprocess.PIPE, stderr=subprocess.DEVNULL, text=True)
+    return ran.stdout
 
 
 def space(row: Row, end: int) -> str:
@@ -44,7 +45,8 @@ def build(row: Row) -> None:
     for end in (1, 2):
         run("ip", "netns", "add", space(row, end))
         run("ip", "-n", space(row, end), "link", "set", "lo", "up")
-    run("ip", "link", "add", "eth0", "netns", space(row, 1), "type", "veth", "peer", "name", "eth0", "netns", space(row, 2))
+    run("ip", "link", "add", "eth0", "netns", space(row, 1), "type", "veth", "peer", "name", "eth0", "netns",
+        space(row, 2))
     for end in (1, 2):
         for device, where in (("lo", "10.0.0.%d/32" % end), ("eth0", "10.1.0.%d/30" % end)):
             run("ip", "-n", space(row, end), "addr", "add", where, "dev", device)

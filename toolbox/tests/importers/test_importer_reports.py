@@ -66,7 +66,8 @@ class Addresses(Told):
 
     def test_bird(self):
         """BIRD takes no file with such a word."""
-        text = "router id 10.0.0.1;\nprotocol bgp {\nlocal 10.1.0.1 as 65001; neighbor %s as 65002;\nipv4 { import all; };\n}\n"
+        text = ("router id 10.0.0.1;\nprotocol bgp {\nlocal 10.1.0.1 as 65001; neighbor %s as 65002;\n"
+                "ipv4 { import all; };\n}\n")
         for wrong in ("10.1.0.300", "10.1.0"):
             made = inside("from-bird", self.file("%s.conf" % wrong, text % wrong))
             self.assertEqual((made.returncode, made.stdout), (2, ""))

@@ -1,5 +1,5 @@
-"""Two routers whose lines for one another differ, against the answers of FRR's and BIRD's own: data/mismatches/README.md
-says what a row is."""
+"""Two routers whose lines for one another differ, against the answers of FRR's and BIRD's own:
+data/mismatches/README.md says what a row is."""
 import re
 
 from common import DATA, Case, inside
@@ -128,7 +128,8 @@ class OtherUses(Told):
         files = {"r1.conf": interior(1, (("eth0", "10.1.0.1/30"),)), "r2.conf": interior(2, (("eth0", "10.1.0.2/29"),))}
         made = self.convert(files, status=1)
         self.assertNotIn("link", made.stdout)
-        self.assert_told(made, "r1.conf", 5, "the mask is of 30 bits here and of 29 at r2 (r2.conf:5)", "`link 10.0.0.1 10.0.0.2 10`")
+        self.assert_told(made, "r1.conf", 5, "the mask is of 30 bits here and of 29 at r2 (r2.conf:5)",
+                         "`link 10.0.0.1 10.0.0.2 10`")
         files["r2.conf"] = interior(2, (("eth0", "10.1.0.5/29"),))
         self.assert_quiet(self.convert(files))
 
@@ -197,4 +198,5 @@ ipv4 { import all; export all; }; }
                 self.file(place + "/a.conf", one % here)
                 self.file(place + "/b.conf", other % there)
                 made = inside("from-bird", self.folder / place)
-                self.assertEqual(("stop 10.0.0.1 10.0.0.2\n" not in made.stdout, made.returncode), (is_up, 0), made.stderr)
+                self.assertEqual(("stop 10.0.0.1 10.0.0.2\n" not in made.stdout, made.returncode), (is_up, 0),
+                                 made.stderr)

@@ -34,7 +34,8 @@ def _ospf(config: BirdConfig, interface: Interface, each: Address) -> Hello:
     own_type = "ptp" if each.opposite or each.length in TO_ONE else "broadcast"
     type_, at = said.get("type", (own_type, line))
     settings = {"area": said["area"], "area-kind": said["area-kind"], "hello": hello,
-                "dead": said.get("dead", (str(int(count[0]) * int(hello[0])), count[1])), "network": (TYPES[type_], at), "network-kind": (TYPES[type_], at),
+                "dead": said.get("dead", (str(int(count[0]) * int(hello[0])), count[1])),
+                "network": (TYPES[type_], at), "network-kind": (TYPES[type_], at),
                 "priority": said.get("priority", ("1", line)), "ttl": said.get("ttl", ("", line)),
                 "authentication": said.get("authentication", ("none", line)),
                 "instance": said.get("instance", config.said.get("instance", ("0", line))),
@@ -48,7 +49,8 @@ def _keys(interface: Interface, settings: Dict[str, Said]) -> Tuple[str, ...]:
     how, line = settings["authentication"]
     found: List[Said] = [("none", line)]
     if how != "none":
-        found = [(key if how == "cryptographic" else secret, at) for key, (secret, at) in interface.keys.items()] or found
+        found = [(key if how == "cryptographic" else secret, at)
+                 for key, (secret, at) in interface.keys.items()] or found
     settings["key"] = found[0]
     return (UNKNOWN,) if settings["key"][0] == UNKNOWN else tuple(each for each, _ in found)
 

@@ -122,9 +122,10 @@ def _check_resolved(network: Network, name: str, other: str, each: Session) -> N
     is_known = is_known or found is not None and covered(config, *found)
     is_known = is_known or any(contains(static.where, (value, 32)) for static in config.statics)
     if not is_known and not (carrier is not None and config.has_ospf and carried(carrier, where)):
-        config.tell(each.line, "%s: neither `protocol direct` nor a static route nor OSPF has its address, so that BIRD does "
-                    "not resolve the next hop of what comes over it, and the routes are unreachable; here they are used. "
-                    "Write `protocol direct { ipv4; }` in BIRD's file, or `stop %s %s`" % (short(each.line.text), name, other))
+        config.tell(each.line, "%s: neither `protocol direct` nor a static route nor OSPF has its address, so that BIRD "
+                    "does not resolve the next hop of what comes over it, and the routes are unreachable; here they "
+                    "are used. Write `protocol direct { ipv4; }` in BIRD's file, or `stop %s %s`" % (
+                        short(each.line.text), name, other))
 
 
 def tell_policy(config: BirdConfig, session: Session, way: str) -> None:

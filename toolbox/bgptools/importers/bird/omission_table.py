@@ -17,9 +17,11 @@ COUNTED.update({
         ("attribute", "attributes"), ("eval", "logs")),
     "bird bgp": table(
         ("description", "descriptions"), ("bfd", "bfd"), ("debug|mrtdump", "logs"), ("vrf default", "VRFs"),
-        ("startup hold time|connect delay time|connect retry time|error wait time|error forget time|disable after error|disable after cease|send hold time",
+        ("startup hold time|connect delay time|connect retry time|error wait time|error forget time|disable after "
+         "error|disable after cease|send hold time",
          "timers"),
-        ("graceful restart time|long lived graceful restart|long lived stale time", "restarts"), ("hostname|tx size warning", "names"),
+        ("graceful restart time|long lived graceful restart|long lived stale time", "restarts"),
+        ("hostname|tx size warning", "names"),
         ("ipv6|vpn4|vpn6|flow4|flow6|mpls|evpn|ipv4 multicast|ipv6 multicast", "other families"),
         ("setkey|strict bind|check link|free bind|interface|dynamic name|dynamic name digits|enforce first as|"
          "allow local pref|allow bgp_local_pref|allow bgp_med|prefix limit action|require long lived graceful restart|"
@@ -44,8 +46,8 @@ COUNTED.update({
         ("ipv4|ipv6|tick|graceful restart|graceful restart aware|graceful restart time|debug|mrtdump|"
          "description|vrf default|disabled", "OSPF settings")),
     "bird interface": table(
-        ("poll|retransmit|wait|transmit delay|strict nonbroadcast|ptp netmask|ptp address|check link|bfd|ecmp weight|tx "
-         "class|tx priority|tx length|rx buffer|secondary|eligible|link lsa suppression",
+        ("poll|retransmit|wait|transmit delay|strict nonbroadcast|ptp netmask|ptp address|check link|bfd|ecmp weight|"
+         "tx class|tx priority|tx length|rx buffer|secondary|eligible|link lsa suppression",
          "OSPF settings")),
 })
 

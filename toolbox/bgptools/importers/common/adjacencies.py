@@ -65,8 +65,8 @@ def _ospf_network(one: Hello, other: Hello, ends: Tuple[str, str], is_pair: bool
     if one.word("network-kind") != other.word("network-kind"):
         return _differs("OSPF", one, other, "network", "the network is %s here and %s there" % (here, there))
     if all(_is_silent(end, opposite) for end, opposite in ((one, ends[1]), (other, ends[0]))):
-        return _differs("OSPF", one, other, "network", "no end has the other one as its `neighbor`, as a network without "
-                        "broadcast asks")
+        return _differs("OSPF", one, other, "network", "no end has the other one as its `neighbor`, as a network "
+                        "without broadcast asks")
     if here in DESIGNATED and is_pair and one.word("priority") == other.word("priority") == "0":
         return _differs("OSPF", one, other, "priority", "both ends have priority 0, and none becomes the designated "
                         "router")

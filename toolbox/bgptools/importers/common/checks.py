@@ -99,10 +99,10 @@ def _check_masks(network: Network) -> None:
         for length in (length for length in lengths if length < each.length):
             for other, there in by_subnet.get(masked(address(each.own) or 0, length), ()):
                 if other != name and contains(each.subnet, (address(there.own) or 0, 32)):
-                    network.routers[name].tell(each.line, "%s: the mask is of %d bits here and of %d at %s (%s), so that "
-                                               "the two are no link here; write one mask, or `link %s %s 10`" % (
-                                                   short(each.line.text), each.length, there.length, network.called(other),
-                                                   place(there.line), name, other))
+                    network.routers[name].tell(
+                        each.line, "%s: the mask is of %d bits here and of %d at %s (%s), so that the two are no link "
+                        "here; write one mask, or `link %s %s 10`" % (short(each.line.text), each.length, there.length,
+                            network.called(other), place(there.line), name, other))
 
 
 def _peers_among(network: Network, name: str, names: List[str]) -> List[str]:

@@ -1,6 +1,7 @@
 """The network that all files make: routers with their names and ASes, links and sessions."""
 from __future__ import annotations
 
+from collections import Counter
 from dataclasses import dataclass, field
 from typing import Dict, FrozenSet, Iterator, List, Optional, Set, Tuple
 
@@ -58,6 +59,7 @@ class Network:
         self._find_sessions()
         self._find_differences()
         self.reflectors = {name for (name, _), each in self.peers.items() if each.has("route-reflector-client")}
+        self._hostnames = Counter(config.hostname for config in self.routers.values())
         self._peers_of: Dict[str, List[Tuple[str, Neighbour]]] = {}
         for (name, other), each in self.peers.items():
             self._peers_of.setdefault(name, []).append((other, each))
@@ -73,8 +75,7 @@ class Network:
     def called(self, name: str) -> str:
         """A router by its name where the files give one to it alone, else by its address."""
         hostname = self.routers[name].hostname if name in self.routers else ""
-        return hostname if hostname and [config.hostname for config in self.routers.values()].count(
-            hostname) == 1 else name
+        return hostname if hostname and self._hostnames[hostname] == 1 else name
 
     def peers_of(self, name: str) -> List[Tuple[str, Neighbour]]:
         """Who a router has sessions with, and what it says of each."""
@@ -196,8 +197,8 @@ class Network:
         for key, link in list(self.links.items()):
             for each in [link, *link.others]:
                 if each.own and each.opposite and each.there:
-                    each.difference = difference(each.own.hellos, each.opposite.hellos, (each.own.own, each.opposite.own),
-                                                 id(each.here) not in crowded)
+                    each.difference = difference(each.own.hellos, each.opposite.hellos,
+                                                 (each.own.own, each.opposite.own), id(each.here) not in crowded)
             used = [each for each in [link, *link.others] if each.difference is None and not each.is_down]
             if link.difference and used and not link.is_down:
                 chosen = min(used, key=lambda each: each.here.cost)

@@ -42,8 +42,8 @@ def refusal(one: Opening, other: Opening) -> Optional[Refusal]:
                        "sends %d" % (one.least_ttl[0], other.ttl[0]))
     agreed = min(one.hold[0], other.hold[0])
     if other.hold[0] < one.least_hold[0]:
-        return Refusal(one.least_hold[1], other.hold[1], "it takes a hold time of %d seconds and more, and the other end "
-                       "offers %d" % (one.least_hold[0], other.hold[0]))
+        return Refusal(one.least_hold[1], other.hold[1], "it takes a hold time of %d seconds and more, and the other "
+                       "end offers %d" % (one.least_hold[0], other.hold[0]))
     alive = one.alive_by[0] * agreed // one.alive_by[1]
     if alive < one.least_alive[0]:
         return Refusal(one.least_alive[1], other.hold[1], "it takes keepalives of %d seconds and more, and they come "

@@ -61,9 +61,10 @@ def _texts(told: List[Told], names: Dict[str, str], lists_all: bool) -> List[str
         same = alike[_kind(each)]
         is_short = len(same) > MOST_ALIKE and not lists_all
         if not is_short or same[0] is each:
-            more = " (so it is at %d other lines of this file; `--all` lists them)" % (len(same) - 1) if is_short else ""
-            found.append("%s: %s: %s%s" % ("%s:%d" % (each.file, each.line) if each.line else each.file, "not taken over"
-                                           if each.decides else "note", _shown(each.text, names, lists_all), more))
+            more = " (so it is at %d other lines of this file; `--all` lists them)" % (len(same) - 1)
+            at = "%s:%d" % (each.file, each.line) if each.line else each.file
+            found.append("%s: %s: %s%s" % (at, "not taken over" if each.decides else "note",
+                                           _shown(each.text, names, lists_all), more if is_short else ""))
     return found
 
 

@@ -61,7 +61,8 @@ def _reason(network: Network, one: str, other: str) -> Optional[Reason]:
     if each.has("shutdown") or config.flags.get("bgp shutdown", (False, None))[0]:
         return Reason(config, each.line, "")
     if not each.flags.get("activate", (config.is_on("bgp default ipv4-unicast"), each.line))[0]:
-        return Reason(config, each.line, "it is not activated for IPv4 unicast, so that the session carries no such route")
+        return Reason(config, each.line, "it is not activated for IPv4 unicast, so that the session carries no "
+                      "such route")
     if back is not None and each.has("passive") and back.has("passive"):
         return Reason(config, each.line, "both ends wait for the other to begin, so that the session never comes up",
                       back.at("passive"))
@@ -85,11 +86,13 @@ def _refusal(network: Network, openings: Openings, one: str, other: str) -> Opti
         return None
     config, is_external = network.routers[one], network.is_external(one, other)
     spoken = back.word("local-as").split(" ")
-    if is_external and spoken != [""] and each.remote.isdigit() and each.remote != spoken[0] and "dual-as" not in spoken:
-        return Reason(config, each.line, "the other end speaks for AS %s, so that the session never comes up" % spoken[0],
-                      back.at("local-as"))
+    is_meant = each.remote == spoken[0] or "dual-as" in spoken or not each.remote.isdigit()
+    if is_external and spoken != [""] and not is_meant:
+        return Reason(config, each.line, "the other end speaks for AS %s, so that the session never comes up" %
+                      spoken[0], back.at("local-as"))
     found = refusal(openings(config, each, is_external), openings(network.routers[other], back, is_external))
-    return Reason(config, found.here, found.said + ", so that the session never comes up", found.there) if found else None
+    said = "%s, so that the session never comes up" % found.said if found else ""
+    return Reason(config, found.here, said, found.there) if found else None
 
 
 def _role_reason(each: Neighbour, back: Optional[Neighbour]) -> str:

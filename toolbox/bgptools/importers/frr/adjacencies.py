@@ -51,7 +51,8 @@ def _ospf(config: Config, interface: Interface, area: Said) -> Hello:
     type_ = said.get("network", ("broadcast", line))
     asks = config.said.get("neighbors", ("none", line)) if type_[0] == "non-broadcast" else ("", line)
     settings = {"area": (named(area[0]), area[1]), "area-kind": kind, "hello": hello, "dead": dead, "network": type_,
-                "network-kind": ("to one" if type_[0] in TO_ONE else "designated", type_[1]), "priority": said.get("priority", ("1", line)), "asks": asks,
+                "network-kind": ("to one" if type_[0] in TO_ONE else "designated", type_[1]),
+                "priority": said.get("priority", ("1", line)), "asks": asks,
                 "identifier": config.said.get("identifier", ("", line))}
     own = config.said.get("area %s authentication" % named(area[0]), ("none", line))
     settings["authentication"] = said.get("authentication", own)

@@ -95,8 +95,8 @@ def _leave_line(config: Config, block: Block, line: Line) -> None:
     if found and found.group(2) in config.neighbours_six:
         config.count("IPv6")
     elif found and not (found.group(1) or found.group(2) in config.neighbours or found.group(2) in config.groups):
-        config.tell(line, "%s: %s" % (short(line.text), no_address(found.group(2)) or "no line before makes this neighbor, "
-                    "by `remote-as` or `peer-group`; FRR does not take it"))
+        config.tell(line, "%s: %s" % (short(line.text), no_address(found.group(2)) or "no line before makes this "
+                    "neighbor, by `remote-as` or `peer-group`; FRR does not take it"))
     else:
         config.leave_out("neighbour" if found else block.kind, line, no + said, is_off)
 
@@ -285,7 +285,8 @@ def _shutdown(config: Config, interface: Interface, line: Line, no: Optional[str
     interface.is_down = not no
 
 
-def _interior(config: Config, interface: Interface, line: Line, area: Optional[str], tag: Optional[str]) -> Optional[bool]:
+def _interior(config: Config, interface: Interface, line: Line, area: Optional[str],
+              tag: Optional[str]) -> Optional[bool]:
     if area and _area(config, line, area) is False:
         return False
     interface.interior = line
@@ -448,7 +449,8 @@ def _setting(here: Neighbour, no: Optional[str], line: Line, name: str, said: st
     return None
 
 
-def _timers(here: Neighbour, no: Optional[str], line: Line, alive: Optional[str], hold: Optional[str]) -> Optional[bool]:
+def _timers(here: Neighbour, no: Optional[str], line: Line, alive: Optional[str],
+            hold: Optional[str]) -> Optional[bool]:
     if not no and not interior.are_timers(alive or "", hold or ""):
         return False
     _setting(here, no, line, "hold", hold or "")

@@ -51,7 +51,8 @@ def _check_choice(network: Network) -> None:
         config = network.routers[oldest[0]]
         config.tell(config.line, "%s: of external routes that are alike FRR keeps the one that came first, and here "
                     "the lower identifier wins; so it is at %s. "
-                    "`bgp bestpath compare-routerid` makes FRR do the same" % (short(config.line.text), listed(oldest)), is_certain=False)
+                    "`bgp bestpath compare-routerid` makes FRR do the same" % (short(config.line.text), listed(oldest)),
+                    is_certain=False)
     _check_order_of_med(network)
 
 

@@ -42,8 +42,8 @@ COUNTED.update({
          "reflection|enforce-first-as|bestpath peer-type|network import-check)",
          "what holds here always")),
     "neighbour": table(
-        ("timers (connect|delayopen)|advertisement-interval|shutdown rtt", "timers"), ("bfd", "bfd"), ("description", "descriptions"),
-        ("graceful-restart|graceful-restart-helper|graceful-restart-disable", "restarts"),
+        ("timers (connect|delayopen)|advertisement-interval|shutdown rtt", "timers"), ("bfd", "bfd"),
+        ("description", "descriptions"), ("graceful-restart|graceful-restart-helper|graceful-restart-disable", "restarts"),
         ("soft-reconfiguration|send-community|solo|strict-capability-match|override-capability|"
          "dont-capability-negotiate|capability(?! orf)|disable-link-bw-encoding-ieee|extended-optional-parameters|"
          "disable-addpath-rx|tcp-mss|enforce-first-as|sender-as-path-loop-detection|extended-link-bandwidth",
@@ -55,7 +55,8 @@ COUNTED.update({
          "default-information|default-metric|proactive-arp|"
          r"area \S+ default-cost|fast-reroute|write-multiplier|summary-address|aggregation",
          "OSPF settings")),
-    "isis": table(("log-adjacency-changes|lsp-\\S+|spf-\\S+|hostname|purge-originator|timers|set-\\S+|max-lsp|topology|mpls|segment-routing|"
+    "isis": table(("log-adjacency-changes|lsp-\\S+|spf-\\S+|hostname|purge-originator|timers|set-\\S+|max-lsp|topology|"
+                   "mpls|segment-routing|"
                     "attached-bit|fast-reroute|dynamic-hostname|default-information|advertise", "IS-IS settings")),
     "map": table(
         ("description", "descriptions"),

@@ -123,5 +123,5 @@ def tell_incomplete(network: Network) -> None:
         config, line = lines[0]
         more = "; so it is at %s" % listed([place(each) for _, each in lines[1:]]) if len(lines) > 1 else ""
         config.tell(line, "%s: FRR gives what is redistributed ORIGIN incomplete, and an own route has igp here; "
-                    "that decides where a prefix has several origins%s. `network` in its place makes FRR do the same" % (
-                        short(line.text), more), is_certain=False)
+                    "that decides where a prefix has several origins%s. `network` in its place makes FRR do the "
+                    "same" % (short(line.text), more), is_certain=False)
