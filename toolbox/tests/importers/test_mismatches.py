@@ -123,6 +123,12 @@ class OtherUses(Told):
         self.assertNotIn("fail", made.stdout)
         self.assertIn("another link of the two stands for it here", made.stderr)
 
+    def test_isis_without_a_net(self):
+        rows = [row for row in mismatches.rows_of(ROWS / "frr.txt") if row.kind == "isis" and row.ends == ([], [])]
+        files = {"r%d.conf" % end: mismatches.frr(rows[0], end) for end in (1, 2)}
+        files["r2.conf"] = files["r2.conf"].replace(" net 49.0001.0000.0000.0002.00\n", "")
+        self.assert_told(self.convert(files, status=1), "r2.conf", at(files["r2.conf"], "ip router isis X"), "no `net`")
+
     def test_masks_that_differ(self):
         """They are no link here; where one has not the other's address in its subnet, they are none in FRR, either."""
         files = {"r1.conf": interior(1, (("eth0", "10.1.0.1/30"),)), "r2.conf": interior(2, (("eth0", "10.1.0.2/29"),))}

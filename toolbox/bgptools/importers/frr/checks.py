@@ -24,6 +24,7 @@ def check(network: Network) -> None:
     for name, config in network.routers.items():
         _check_required(network, name, config)
         _check_six(config)
+        _check_net(config)
         _check_interfaces(config)
         _check_unused(config)
 
@@ -97,6 +98,14 @@ def _check_six(config: Config) -> None:
         if each.remote and each.flags.get("activate", (config.is_on("bgp default ipv4-unicast"), each.line))[0]:
             config.tell(each.line, "%s: FRR tells routes of IPv4 over this session, too (`no neighbor %s activate` "
                         "ends that); here it is not made" % (short(each.line.text), each.name))
+
+
+def _check_net(config: Config) -> None:
+    """A router whose IS-IS has no identifier, so that it does not run."""
+    running = [interface.said["isis"][1] for interface in config.interfaces.values() if "isis" in interface.said]
+    if config.has_isis and running and "net" not in config.said:
+        config.tell(running[0], "%s: there is no `net` below `router isis`, so that FRR runs no IS-IS; here its links are "
+                    "used. Write `net`, or `fail` for each link" % short(running[0].text))
 
 
 def _check_interfaces(config: Config) -> None:
