@@ -3,11 +3,12 @@ from __future__ import annotations
 
 from typing import Dict, List, Tuple
 
+from ..common.adjacencies import UNKNOWN
 from ..common.configuration import Address, Hello, Interface, Line, Neighbour, Said
 from ..common.igp import is_loopback
 from ..common.opening import Opening
 from .configuration import BirdConfig, Session
-from .igp_settings import TYPES, UNKNOWN
+from .igp_settings import TYPES
 
 # The subnets on which BIRD has one other router, where nothing else is said.
 TO_ONE = (30, 31)

@@ -5,16 +5,15 @@ import re
 from typing import Callable, Dict, List, Match, Optional, Tuple
 
 from ...program.language import address, number
+from ..common.adjacencies import UNKNOWN
 from ..common.configuration import Said
-from .lexer import Item, Word, items_of
+from .lexer import Item, items_of
 
 TYPES = {"broadcast": "broadcast", "bcast": "broadcast", "nonbroadcast": "non-broadcast", "nbma": "non-broadcast",
          "pointopoint": "point-to-point", "ptp": "point-to-point", "pointomultipoint": "point-to-multipoint",
          "ptmp": "point-to-multipoint"}
 SWITCH = r"(?: (on|off|yes|no|enabled?|disabled?|true|false|1|0))?"
 OFF = ("off", "no", "disable", "disabled", "false", "0")
-# A key that is of some time alone.
-UNKNOWN = "of a time"
 
 
 class Settings:
