@@ -108,8 +108,8 @@ class NextHops(Told):
         third = router(65001, "10.0.0.3", "eth0 10.0.2.2/30", ospf="10.0.0.0/16", bgp=[
             "neighbor 10.0.0.1 remote-as internal", "neighbor 10.0.0.1 update-source lo"])
         made = self.convert({"a.conf": text, "b.conf": inner(), "c.conf": OUTSIDE, "d.conf": third}, status=1)
-        self.assert_told(made, "a.conf", at(text, "neighbor 10.9.0.2 remote-as 65002"), "10.0.0.2 and 1 more",
-                         "`rule 10.0.0.1 10.0.0.2 out first 65002 deny` `rule 10.0.0.1 10.0.0.3 out first 65002 deny`")
+        self.assert_told(made, "a.conf", at(text, "neighbor 10.9.0.2 remote-as 65002"), "10.0.0.2 and 1 more (`--all` lists them)",
+                         "`rule 10.0.0.1 10.0.0.2 out first 65002 deny`, `rule 10.0.0.1 10.0.0.3 out first 65002 deny`")
 
     def test_ways_to_make_it_known(self):
         subnet = "10.9.0.0/30"
@@ -202,9 +202,11 @@ class Sessions(Told):
     def test_no_session_from_another_address(self):
         one, two = [text.replace(" neighbor 10.0.0.%d update-source lo\n" % number, "")
                     for text, number in ((border("neighbor 10.0.0.2 next-hop-self"), 2), (inner(), 1))]
-        made = self.convert({"a.conf": one, "b.conf": two}, status=1)
-        self.assert_told(made, "a.conf", at(one, "neighbor 10.0.0.2 remote-as internal"), "`update-source` is missing",
-                         "`stop 10.0.0.1 10.0.0.2`")
+        made = self.convert({"a.conf": one, "b.conf": two}, status=0)
+        self.assertIn("a.conf:%d: note: neighbor" % at(one, "neighbor 10.0.0.2 remote-as internal"), made.stderr)
+        self.assertIn("(`update-source` is missing), so that the session never comes up (b.conf:%d); it is stopped here, too"
+                      % at(two, "neighbor 10.0.0.1 remote-as internal"), made.stderr)
+        self.assertIn("\nstop 10.0.0.1 10.0.0.2\n", made.stdout)
         # It is enough that one end opens it from its loopback.
         self.assertNotIn("update-source", self.convert({"a.conf": one, "b.conf": inner()}).stderr)
 
@@ -332,8 +334,8 @@ class Lines(Told):
                       more=["interface eth0", " description uplink", " ipv6 address fe80::1/64", "log syslog",
                             "ipv6 route ::/0 Null0"])
         made = self.convert({"a.conf": text, "b.conf": inner(), "c.conf": OUTSIDE}, status=0)
-        self.assertEqual(made.stderr, "8 lines that decide no route were left out: descriptions 2, IPv6 2, timers 2, "
-                         "bfd 1, logs 1\n")
+        self.assertEqual(made.stderr, "6 lines that decide no route were left out: descriptions 2, IPv6 2, bfd 1, logs "
+                         "1\n")
 
     def test_exit_leaves_an_address_family(self):
         """And not all of `router bgp`."""
@@ -486,4 +488,4 @@ class Layouts(Told):
         one, two = OUTSIDE, router(65003, "10.0.0.9", "eth0 10.8.0.2/30")
         made = self.convert({"a.conf": one, "b.conf": two}, status=1)
         self.assertIn("router 10.0.0.9 65002\nrouter 10.8.0.2 65003\n", made.stdout)
-        self.assert_told(made, "b.conf", at(two, "router bgp 65003"), "router-id 10.0.0.9", "is 10.8.0.2 here")
+        self.assert_told(made, "b.conf", at(two, "router bgp 65003"), "router-id 10.0.0.9", "is `10.8.0.2` here")

@@ -313,15 +313,22 @@ class Checked(Malformed):
             self.assertIn("router 10.0.0.1 65001\n", made.stdout)
 
     def test_from_bird(self):
-        for setting in ("neighbor 172.256.1.2 as 7;", "local 10.9.0.300;", "local as 0;", "rr cluster id 1.2.3.256;",
-                        "local role zqx;", "default bgp_local_pref 4294967295x;", "local 2001:db8::1;"):
-            made = self.bird(SESSION % (setting, "all"))
-            self.assert_told(made, "a.conf:3: not taken over: ")
-            self.assertNotIn("172.256", made.stdout)
+        for setting in ("local as 0;", "local role zqx;", "default bgp_local_pref 4294967295x;", "local 2001:db8::1;"):
+            self.assert_told(self.bird(SESSION % (setting, "all")), "a.conf:3: not taken over: ")
         for body in ("bgp_med = true;", "bgp_local_pref = 1 - 2;", "bgp_community.add((1, 70000));"):
             self.assert_told(self.bird(SESSION % ("", "filter { %s accept; }" % body)), "a.conf:3: not taken over: ")
         for condition in ("bgp_path ~ [ 0..5 ]", "(1, 70000) ~ bgp_community", "bgp_path.first = 0"):
             self.assert_told(self.bird(SESSION % ("", "where " + condition)), "a.conf:3: not taken over: ")
+
+    def test_addresses_of_bird_that_are_none(self):
+        """BIRD takes no file with such a word."""
+        for text, line in ((SESSION % ("neighbor 172.256.1.2 as 7;", "all"), 3), (SESSION % ("local 10.9.0.300;", "all"), 3),
+                           (SESSION % ("rr cluster id 1.2.3.256;", "all"), 3),
+                           ("protocol static { route 10.0.0.0/8 via 10.0.0.256; }\n" + SESSION % ("", "all"), 1),
+                           ("protocol ospf v2 {\n area 0 { stubnet 10.0.0.256/32; }; }\n" + SESSION % ("", "all"), 2)):
+            made = self.bird(text)
+            self.assertEqual((made.returncode, made.stdout), (2, ""))
+            self.assertRegex(made.stderr, r"\Aa\.conf:%d: `[0-9.]+` is no address, " % line)
 
     def test_words_of_bird_that_are_not_known(self):
         """Each is told with its line, whether it is reached or not, and the session goes on as is said."""
@@ -343,10 +350,8 @@ class Checked(Malformed):
     def test_items_of_bird_that_are_not_known(self):
         for text, line in (("protocol bgp a zqx b { }", 1), ("protocol static { rotue 10.0.0.0/8 blackhole; }", 1),
                            ("protocol kernel { ipv4 { exprot all; }; }", 1), ("template zqx a { }", 1),
-                           ("protocol static { route 10.0.0.0/8 via 10.0.0.256; }", 1),
                            ("protocol ospf v9 { }", 1), ("function f(zqx x) { }", 1), ("filter f zqx { }", 1),
                            ("protocol ospf v2 { area zqx { }; }", 1),
-                           ("protocol ospf v2 {\n area 0 { stubnet 10.0.0.256/32; }; }", 2),
                            ("protocol ospf v2 {\n ipv4 { exprt all; }; area 0 { }; }", 2),
                            ("protocol ospf v2 {\n area 0 { interface zqx \"eth0\" { }; }; }", 2)):
             with self.subTest(text=text):

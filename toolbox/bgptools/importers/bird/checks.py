@@ -3,11 +3,13 @@ from __future__ import annotations
 
 from typing import Dict, List, Set, Tuple, cast
 
-from ...program.language import show_address
-from ..common.checks import check_network, compares_med, some_of
-from ..common.configuration import Neighbour, short
+from ...program.language import address, contains, show_address
+from ..common.checks import check_network, compares_med
+from ..common.configuration import Neighbour, place, short
+from ..common.igp import carried, covered
 from ..common.igp_costs import costs_from
 from ..common.network import Network
+from ..common.report import listed
 from .configuration import BirdConfig, Session
 from .filters import Function, Node, nodes_in
 from .rules import ENUMS, SYMBOLS, WELL_KNOWN
@@ -58,8 +60,9 @@ def stop(network: Network) -> None:
         if back is not None and back.word("update-source") not in ("", each.name):
             network.stopped.add(frozenset((name, other)))
             network.routers[name].tell(each.line, "%s: the other end has `local %s`, so that the session never comes "
-                                       "up; it is stopped here, too" % (
-                                           short(each.line.text), back.word("update-source")), False)
+                                       "up (%s); it is stopped here, too" % (
+                                           short(each.line.text), back.word("update-source"),
+                                           place(back.at("update-source"))), False)
 
 
 def check(network: Network) -> None:
@@ -75,6 +78,7 @@ def check(network: Network) -> None:
         costs = costs_from(network, name)
         for other, each in network.peers_of(name):
             _check_way(network, name, other, each, other in costs)
+            _check_resolved(network, name, other, cast(Session, each))
 
 
 def _check_kernel(network: Network, name: str, config: BirdConfig) -> None:
@@ -92,15 +96,36 @@ def _check_order(network: Network) -> None:
                and not config.is_on("bgp always-compare-med") and compares_med(network, name)]
     if ordered:
         config = network.routers[ordered[0]]
-        config.tell(config.line, "%s: %s" % (short(config.line.text), _IN_ORDER % some_of(ordered)))
+        config.tell(config.line, "%s: %s" % (short(config.line.text), _IN_ORDER % listed(ordered)), is_certain=False)
 
 
 def _check_way(network: Network, name: str, other: str, each: Neighbour, has_way: bool) -> None:
-    """An internal session that is down here, since nothing links its ends."""
-    is_stopped = frozenset((name, other)) in network.stopped
+    """An internal session that is down here, since nothing links its ends. Where a link fails since OSPF does not use
+    it, that is told."""
+    is_stopped = frozenset((name, other)) in network.stopped or any(
+        link.is_unused for link in network.links.values() if not network.is_external(name, link.one))
     if not network.is_external(name, other) and not has_way and not is_stopped:
         network.routers[name].tell(each.line, "%s: nothing in the files links %s and %s, so that the session is down "
                                    "here; write `link A B M`" % (short(each.line.text), name, other))
+
+
+def _check_resolved(network: Network, name: str, other: str, each: Session) -> None:
+    """A session that is not `direct`, whose neighbour's address no protocol puts into BIRD's table: BIRD does not
+    resolve the next hop of what comes over it."""
+    config = cast(BirdConfig, network.routers[name])
+    if each.is_on_a_link(config) or frozenset((name, other)) in network.stopped:
+        return
+    where, carrier = network.addresses[name, other], network.routers.get(other)
+    value, found = address(where) or 0, config.subnet_of(where)
+    # Without `NAME.addresses` it is not known which subnets the router has.
+    is_known = config.direct is not None and (found is not None or not config.has_addresses)
+    is_known = is_known or found is not None and covered(config, *found)
+    is_known = is_known or any(contains(static.where, (value, 32)) for static in config.statics)
+    if not is_known and not (carrier is not None and config.has_ospf and carried(carrier, where)):
+        config.tell(each.line, "%s: neither `protocol direct` nor a static route nor OSPF has its address, so that BIRD "
+                    "does not resolve the next hop of what comes over it, and the routes are unreachable; here they "
+                    "are used. Write `protocol direct { ipv4; }` in BIRD's file, or `stop %s %s`" % (
+                        short(each.line.text), name, other))
 
 
 def tell_policy(config: BirdConfig, session: Session, way: str) -> None:
@@ -140,6 +165,5 @@ def _is_unknown(node: Node, known: Set[str]) -> bool:
 
 
 def some_prefixes(found: "List[tuple[int, int]]") -> str:
-    """The first of some prefixes, and how many more there are."""
-    first = "%s/%d" % (show_address(found[0][0]), found[0][1])
-    return first + (" and %d prefixes more" % (len(found) - 1) if len(found) > 1 else "")
+    """Some prefixes, in a text that is told."""
+    return listed(["%s/%d" % (show_address(value), length) for value, length in found])

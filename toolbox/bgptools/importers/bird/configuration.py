@@ -4,7 +4,7 @@ from __future__ import annotations
 from dataclasses import dataclass, field
 from typing import Dict, List, NamedTuple, Optional, Tuple
 
-from ..common.configuration import NOWHERE, Config, Interface, Line, Neighbour, Prefix
+from ..common.configuration import NOWHERE, Config, Interface, Line, Neighbour, Prefix, Said
 from .filters import Function, Node
 
 # What the modules that both importers use say of FRR, in BIRD's words.
@@ -69,12 +69,12 @@ class BirdConfig(Config):
         self.patterns: List[Pattern] = []
         self.stubs: List[Prefix] = []
 
-    def tell(self, line: Line, text: str, decides: bool = True) -> None:
+    def tell(self, line: Line, text: str, decides: bool = True, is_certain: bool = True) -> None:
         """Keeps what is not taken over; what is said of FRR in BIRD's words."""
         about, colon, rest = text.partition(": ")
         for other, said in _SAID:
             about, rest = (about, rest.replace(other, said)) if colon else (about.replace(other, said), rest)
-        super().tell(line, about + colon + rest, decides)
+        super().tell(line, about + colon + rest, decides, is_certain)
 
     def is_on(self, flag: str) -> bool:
         """Whether a setting of the router is on. Of FRR's only those of its sessions are known here."""
@@ -102,6 +102,8 @@ class Pattern(NamedTuple):
     is_out: bool
     cost: Optional[int]
     is_stub: bool
+    said: Dict[str, Said]
+    keys: Dict[str, Said]
 
 
 def interface_of(config: Config, name: str, line: Line) -> Interface:

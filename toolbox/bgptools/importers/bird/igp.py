@@ -2,16 +2,15 @@
 from __future__ import annotations
 
 import re
-from typing import List, Optional
+from typing import Dict, List, Optional
 
 from ...program.language import address, number, show_address
-from ..common.configuration import Prefix, Static, loose_prefix, short
+from ..common.configuration import Prefix, Said, Static, loose_prefix, short
 from . import omission_table
 from .configuration import BirdConfig, OwnRoute, Pattern
+from .igp_settings import OFF, SWITCH, Settings
 from .lexer import Item, Word, items_of  # noqa: F401, gives the table of omissions what it says of BIRD
 
-SWITCH = r"(?: (on|off|yes|no|enabled?|disabled?|true|false|1|0))?"
-OFF = ("off", "no", "disable", "disabled", "false", "0")
 # These are on by default, and hold here always.
 _ON = re.compile("(path metric|igp metric|interpret communities|allow as sets)" + SWITCH)
 # These are off by default.
@@ -155,6 +154,8 @@ def ospf(config: BirdConfig, item: Item, name: str, inside: List[Item]) -> None:
             _area(config, each)
         elif each.texts[:1] == ["ipv4"]:
             _ospf_channel(config, each)
+        elif each.texts[:2] == ["instance", "id"] and number(each.texts[-1], 0, 255) is not None:
+            config.said["instance"] = (each.texts[-1], each.line)
         else:
             leave(config, "bird ospf", each)
 
@@ -184,9 +185,13 @@ def _ospf_channel(config: BirdConfig, item: Item) -> None:
 
 
 def _area(config: BirdConfig, item: Item) -> None:
-    for each in items_of(item.body or []):
+    inside = items_of(item.body or [])
+    kinds = [(each.texts[0], each.line) for each in inside if each.texts[:1] in (["stub"], ["nssa"])
+             and each.texts[-1] not in OFF]
+    area = {"area": (_area_of(item.texts[1]), item.line), "area-kind": kinds[-1] if kinds else ("normal", item.line)}
+    for each in inside:
         if each.texts[:1] == ["interface"]:
-            _interface(config, each)
+            _interface(config, each, area)
         elif each.texts[:1] == ["stubnet"]:
             where = loose_prefix("".join(each.texts[1:4])) if each.texts[2:3] == ["/"] else None
             config.stubs += [where] if where else []
@@ -196,16 +201,18 @@ def _area(config: BirdConfig, item: Item) -> None:
             leave(config, "bird area", each)
 
 
-def _interface(config: BirdConfig, item: Item) -> None:
+def _interface(config: BirdConfig, item: Item, area: Dict[str, Said]) -> None:
     """An interface of OSPF, or a pattern of several."""
-    cost, is_stub = None, False
+    cost, is_stub, settings = None, False, Settings()
+    instance = re.search(r"instance ([0-9]+)$", item.said)
+    settings.said.update({**area, **({"instance": (instance.group(1), item.line)} if instance else {})})
     for each in items_of(item.body or []):
         said = resolved(config, each)
         if re.fullmatch("cost [0-9]+", said) and number(said[5:], 1, 65535) is not None:
             cost = int(said[5:])
         elif re.fullmatch("stub" + SWITCH, said):
             is_stub = each.texts[-1] not in OFF
-        else:
+        elif not settings.take(each, said):
             leave(config, "bird interface", each)
     for words in _parted(item.head[1:]):
         if not _is_pattern(words):
@@ -216,7 +223,8 @@ def _interface(config: BirdConfig, item: Item) -> None:
         name = next((word.text for word in words if word.kind == "string"), "")
         at = next((at for at, word in enumerate(words) if word.kind == "address"), None)
         where = _prefix_at(words, at)
-        config.patterns.append(Pattern(item.line, name, where, is_out, cost, is_stub))
+        config.patterns.append(Pattern(item.line, name, where, is_out, cost, is_stub, settings.said,
+                                       settings.keys))
 
 
 def _is_pattern(words: List[Word]) -> bool:

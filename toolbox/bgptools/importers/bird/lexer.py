@@ -8,7 +8,7 @@ import re
 from typing import Iterator, List, NamedTuple, Optional, Set, Tuple, Union
 
 from ...program.mistakes import Mistake
-from ..common.configuration import Line, short
+from ..common.configuration import Line, no_address, short
 from ..common.sources import text_of
 
 # BIRD includes files in files up to this depth.
@@ -23,7 +23,7 @@ _WORD = re.compile(r"""
     | (?P<string>"[^"\n]*")
     | (?P<quoted>'[A-Za-z0-9_.:-]+')
     | (?P<six>(?:[0-9a-fA-F]{1,4}:){2}[0-9a-fA-F:.]* | (?:[0-9a-fA-F]{1,4})?::[0-9a-fA-F:.]*)
-    | (?P<address>[0-9]+(?:\.[0-9]+){3})
+    | (?P<address>[0-9]+(?:\.[0-9]+){2,3}(?!\.[0-9]))
     | (?P<number>0x[0-9a-fA-F]+ | [0-9]+)
     | (?P<name>[A-Za-z_][A-Za-z0-9_]*)
     | (?P<mark>\[=|=\]|\.\.|&&|\|\||!=|!~|<=|>=|->|[^\w\s"'])
@@ -155,6 +155,8 @@ def _words(content: str, path: str) -> Iterator[Word]:
         kind, text = found.lastgroup or "", found.group()
         if kind == "number" and number_of(text) is None:
             raise Mistake("`%s`: a number of 0 to 4294967295 is expected" % short(text), path, number)
+        if kind == "address" and no_address(text):
+            raise Mistake(no_address(text), path, number)
         if kind != "space":
             yield Word("name" if kind == "quoted" else kind, text[1:-1] if kind in ("string", "quoted") else text,
                        lines[number - 1])

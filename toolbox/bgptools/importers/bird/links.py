@@ -14,6 +14,7 @@ from ..common.expressions import is_like
 from ..common.igp import is_loopback
 from ..common.origins import OF_NO_NETWORK
 from ..common.sources import lines_in
+from . import adjacencies
 from .configuration import BirdConfig, OwnRoute, Pattern, Session, interface_of
 
 # Shorter prefixes of OSPF's interfaces are patterns of several subnets, longer ones single addresses.
@@ -34,6 +35,7 @@ def find(configs: List[BirdConfig]) -> None:
         for session in config.sessions():
             _place(config, session, wide)
         _take_loopbacks(config)
+        adjacencies.settle(config)
         if config.direct:
             _take_subnets(config, *config.direct)
 
@@ -66,6 +68,7 @@ def _take_pattern(config: BirdConfig, pattern: Pattern) -> None:
         if interface.interior is None and not pattern.is_out:
             interface.interior = pattern.line
             interface.cost, interface.has_cost = pattern.cost or 10, True
+            interface.said, interface.keys = pattern.said, pattern.keys
             config.passive[interface.name] = pattern.is_stub
         elif pattern.is_out:
             config.passive[interface.name] = True
@@ -95,6 +98,7 @@ def _without_address(config: BirdConfig, pattern: Pattern) -> None:
         made = interface_of(config, pattern.name if pattern.name and "*" not in pattern.name else show_prefix(where),
                             pattern.line)
         made.interior, made.cost, made.has_cost = pattern.line, pattern.cost or 10, True
+        made.said, made.keys = pattern.said, pattern.keys
         made.addresses.append(_unknown(where, pattern.line))
         config.passive[made.name] = pattern.is_stub
     elif pattern.name in ("lo", "*") or pattern.name.startswith("dummy") or where is not None and where[1] == 32:

@@ -17,16 +17,15 @@ COUNTED.update({
         ("attribute", "attributes"), ("eval", "logs")),
     "bird bgp": table(
         ("description", "descriptions"), ("bfd", "bfd"), ("debug|mrtdump", "logs"), ("vrf default", "VRFs"),
-        ("hold time|keepalive time|startup hold time|connect delay time|connect retry time|error wait time|error "
-         "forget time|min hold time|min keepalive time|disable after error|disable after cease|send hold time",
+        ("startup hold time|connect delay time|connect retry time|error wait time|error forget time|disable after "
+         "error|disable after cease|send hold time",
          "timers"),
-        ("graceful restart|long lived graceful restart", "restarts"), ("hostname|tx size warning", "names"),
+        ("graceful restart time|long lived graceful restart|long lived stale time", "restarts"),
+        ("hostname|tx size warning", "names"),
         ("ipv6|vpn4|vpn6|flow4|flow6|mpls|evpn|ipv4 multicast|ipv6 multicast", "other families"),
-        ("ttl security|setkey|strict bind|enable route refresh|enable as4|enable extended messages|capabilities|"
-         "advertise hostname|check link|free bind|interface|dynamic name|dynamic name digits|enforce first as|"
-         "allow local pref|allow bgp_local_pref|allow bgp_med|prefix limit action|require (route refresh|enhanced "
-         "route refresh|as4|extended messages|hostname|graceful restart|long lived graceful restart)|enable enhanced "
-         "route refresh|authentication", _SESSIONS), ("tx class|tx priority", _SESSIONS)),
+        ("setkey|strict bind|check link|free bind|interface|dynamic name|dynamic name digits|enforce first as|"
+         "allow local pref|allow bgp_local_pref|allow bgp_med|prefix limit action|require long lived graceful restart|"
+         "authentication", _SESSIONS), ("tx class|tx priority", _SESSIONS)),
     "bird channel": table(
         ("table master4|import keep filtered|import table|export table|debug|rpki reload|receive limit|import keep|"
          "validate|base table|trusted|settle time|route refresh settle time", _SESSIONS),
@@ -44,12 +43,11 @@ COUNTED.update({
     "bird ospf channel": table(
         ("table|preference|debug|import keep filtered", "OSPF settings")),
     "bird ospf": table(
-        ("ipv4|ipv6|tick|instance id|graceful restart|graceful restart aware|graceful restart time|debug|mrtdump|"
+        ("ipv4|ipv6|tick|graceful restart|graceful restart aware|graceful restart time|debug|mrtdump|"
          "description|vrf default|disabled", "OSPF settings")),
     "bird interface": table(
-        ("hello|poll|retransmit|wait|dead|dead count|transmit delay|priority|strict nonbroadcast|real broadcast|ptp "
-         "netmask|ptp address|check link|bfd|ecmp weight|ttl security|tx class|tx priority|tx length|rx "
-         "buffer|password|passwords|authentication|secondary|type|neighbors|eligible|link lsa suppression|instance",
+        ("poll|retransmit|wait|transmit delay|strict nonbroadcast|ptp netmask|ptp address|check link|bfd|ecmp weight|"
+         "tx class|tx priority|tx length|rx buffer|secondary|eligible|link lsa suppression",
          "OSPF settings")),
 })
 

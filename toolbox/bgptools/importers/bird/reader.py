@@ -10,7 +10,8 @@ from ..common.configuration import short
 from ..common.sessions import ROLES
 from .configuration import ACCEPT, REJECT, BirdConfig, Policy, Session
 from .filters import TYPES, Function, Node, Wrong, expression_of, statements_of
-from .igp import OFF, SWITCH, direct, kernel, leave, ospf, resolved, static
+from .igp import direct, kernel, leave, ospf, resolved, static
+from .igp_settings import OFF, SWITCH
 from .lexer import Item, Word, items_of, words_in
 
 _ADDRESS = r"([0-9]+(?:\.[0-9]+){3})"
@@ -274,7 +275,24 @@ def _multihop(_: BirdConfig, session: Session, item: Item, found: "Match[str]") 
         return False
     session.is_direct = found.group(1) == "direct"
     session.flags["ebgp-multihop"] = (not session.is_direct, item.line)
+    session.words["hops"] = (found.group(2) or "", item.line)
     return None
+
+
+def _seconds(_: BirdConfig, session: Session, item: Item, found: "Match[str]") -> Optional[bool]:
+    asked = number(found.group(2), 0, 65535)
+    session.words[found.group(1)] = (found.group(2), item.line)
+    return asked is not None and not (found.group(1) == "hold time" and asked in (1, 2))
+
+
+def _ability(_: BirdConfig, session: Session, item: Item, found: "Match[str]") -> None:
+    """A capability that the session has, or asks for."""
+    verb, name, said = found.groups()
+    session.flags[("require " if verb == "require" else "has ") + name] = (said not in OFF, item.line)
+
+
+def _restart(_: BirdConfig, session: Session, item: Item, found: "Match[str]") -> None:
+    session.flags["has graceful restart"] = (found.group(1) not in OFF, item.line)
 
 
 def _preference(_: BirdConfig, session: Session, item: Item, found: "Match[str]") -> Optional[bool]:
@@ -329,6 +347,11 @@ _BGP: List[Tuple[str, Taker]] = [
     (r"local(?: %s)?(?: port 179)?(?: as ([0-9]+))?" % _SIX, _local),
     (r"neighbor(?: %s(?: %% \S+)?)?(?: port 179)?(?: as ([0-9]+))?(?: (internal|external))?" % _SIX, _neighbor),
     ("source address %s()" % _ADDRESS, _local), ("(multihop)(?: ([0-9]+))?", _multihop), ("(direct)()", _multihop),
+    ("(hold time|keepalive time|min hold time|min keepalive time) ([0-9]+)", _seconds),
+    ("ttl security" + SWITCH, _flag("gtsm")), ("capabilities" + SWITCH, _flag("capabilities")),
+    ("(enable|advertise|require) (route refresh|enhanced route refresh|as4|extended messages|hostname)" + SWITCH,
+     _ability),
+    ("(require) (graceful restart)" + SWITCH, _ability), ("graceful restart(?: (on|off|yes|no|aware))?", _restart),
     ("password (.*)", _word("password")), ("passive" + SWITCH, _flag("passive")),
     ("disabled" + SWITCH, _flag("shutdown")), ("rr client" + SWITCH, _flag("route-reflector-client")),
     ("rr cluster id %s" % _ADDRESS, _cluster), ("med metric" + SWITCH, _flag("med-metric")),

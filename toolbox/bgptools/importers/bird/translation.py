@@ -10,11 +10,12 @@ from ...program.mistakes import Mistake
 from ...program.names import MOST_BYTES, fits, mark
 from ..common.configuration import Config, Neighbour, Origin, Prefix, Told, short
 from ..common.network import Network
+from ..common.opening import Opening
 from ..common.origins import Own, is_active
 from ..common.policy import ANY, DENY, PERMIT, Action, Rules, covers, is_
 from ..common.regions import Place, World
 from ..common.translation import Translation
-from . import checks, links, reader
+from . import adjacencies, checks, links, reader
 from .configuration import BirdConfig, OwnRoute, Session
 from .files import files_of, name_of
 from .filters import nodes_in
@@ -63,6 +64,10 @@ class BirdTranslation(Translation):
         checks.check(self.network)
         for config in self.network.routers.values():
             checks.tell_unknown(cast(BirdConfig, config))
+
+    def _opening(self, config: Config, each: Neighbour, is_external: bool) -> Opening:
+        """What an end of a session sends first, and takes of the other one."""
+        return adjacencies.opening(cast(BirdConfig, config), each, is_external)
 
     # Policies
 

@@ -2,12 +2,13 @@
 with what to write."""
 from __future__ import annotations
 
-from typing import Dict, List, Optional
+from typing import Dict, List, Optional, Tuple
 
-from ...program.language import by_address
-from .configuration import Config, Neighbour, short
+from ...program.language import address, by_address, contains
+from .configuration import Address, Config, Neighbour, Prefix, masked, place, short
 from .igp import has_interior, interface_with, is_loopback, knows, runs_over
 from .network import Link, Network
+from .report import listed
 
 # So many rules of a kind are written out in what is told.
 SHOWN = 4
@@ -18,6 +19,7 @@ def check_network(network: Network) -> None:
     for link in network.links.values():
         _check_link(network, link)
     _check_shared(network)
+    _check_masks(network)
     _check_names(network)
     _check_areas(network)
     for name, config in network.routers.items():
@@ -40,12 +42,32 @@ def _check_link(network: Network, link: Link) -> None:
         config.tell(link.here.line, "%s: the cost of the link to %s is %d here and %d there; a link has "
                     "one cost, %d" % (
             short(link.here.line.text), link.other, link.here.cost, link.there.cost, link.here.cost))
+    for each in [link, *link.others]:
+        _tell_difference(network, link, each)
     if not network.is_external(link.one, link.other) and link.own and link.opposite and not link.is_down:
         ends = ((config, link.here, link.own), (network.routers[link.other], link.there, link.opposite))
         if any(has_interior(end[0]) for end in ends) and not all(runs_over(*end) for end in ends):
             config.tell(link.here.line, "%s: OSPF or IS-IS does not run over the link to %s, so that FRR's interior "
                         "does not use it; here it does. Write `fail %s %s` for that" % (
                 short(link.here.line.text), link.other, link.one, link.other))
+
+
+def _tell_difference(network: Network, link: Link, each: Link) -> None:
+    """Tells a link that OSPF or IS-IS does not use, since its ends say other things."""
+    said = each.difference
+    if said is None or network.is_external(each.one, each.other) or each.here.is_down:
+        return
+    is_here = bool(said.here.file)
+    config, other = network.routers[each.one if is_here else each.other], each.other if is_here else each.one
+    said = said if is_here else said.turned()
+    head = "%s: the link to %s: %s" % (short(said.here.text), network.called(other), said)
+    if each is not link:
+        config.tell(said.here, "%s; another link of the two stands for it here" % head, False)
+    elif link.is_unused:
+        config.tell(said.here, "%s; it fails here, too" % head, False)
+    else:
+        config.tell(said.here, "%s. A session or a static route is on its addresses, so that it stays here, and the "
+                    "interior uses it; FRR's does not" % head)
 
 
 def _check_shared(network: Network) -> None:
@@ -64,6 +86,25 @@ def _check_shared(network: Network) -> None:
                         "address as next hop; here it puts itself" % (short(line.text), keeping[0]))
 
 
+def _check_masks(network: Network) -> None:
+    """Interfaces that have each other's address in their subnets, which are not the same: they are no link here."""
+    wide = [(name, each) for name, config in network.routers.items() for interface in config.interfaces.values()
+            for each in interface.addresses if each.own and each.length < 32 and not each.opposite
+            and not is_loopback(interface)]
+    by_subnet: Dict[Prefix, List[Tuple[str, Address]]] = {}
+    for name, each in wide:
+        by_subnet.setdefault(each.subnet, []).append((name, each))
+    lengths = sorted({subnet[1] for subnet in by_subnet})
+    for name, each in wide:
+        for length in (length for length in lengths if length < each.length):
+            for other, there in by_subnet.get(masked(address(each.own) or 0, length), ()):
+                if other != name and contains(each.subnet, (address(there.own) or 0, 32)):
+                    network.routers[name].tell(
+                        each.line, "%s: the mask is of %d bits here and of %d at %s (%s), so that the two are no link "
+                        "here; write one mask, or `link %s %s 10`" % (short(each.line.text), each.length, there.length,
+                            network.called(other), place(there.line), name, other))
+
+
 def _peers_among(network: Network, name: str, names: List[str]) -> List[str]:
     return [other for other, _ in network.peers_of(name) if other in names]
 
@@ -75,7 +116,7 @@ def _check_areas(network: Network) -> None:
         other = next((each for each in areas if each[0] != areas[0][0]), None)
         if other:
             other[1].tell(other[2], "%s: AS %d has several areas, and OSPF prefers ways inside of one; here the "
-                          "costs alone count" % (short(other[2].text), asn))
+                          "costs alone count" % (short(other[2].text), asn), is_certain=False)
 
 
 def _check_names(network: Network) -> None:
@@ -85,10 +126,6 @@ def _check_names(network: Network) -> None:
         if first is not config:
             config.tell(config.hostname_line, "%s: it is the name of %s, too; name them by address" % (
                 config.hostname_line.text, first.name), False)
-
-
-def some_of(names: List[str]) -> str:
-    return names[0] if len(names) == 1 else "%s and %d more" % (names[0], len(names) - 1)
 
 
 def external_peers(network: Network, name: str) -> List[str]:
@@ -108,7 +145,7 @@ def _check_cluster(network: Network, name: str, config: Config) -> None:
     line = config.cluster_line
     if config.cluster and name not in network.reflectors:
         config.tell(line, "%s: FRR drops routes that passed this cluster, and here a router without clients does not" %
-                    short(line.text))
+                    short(line.text), is_certain=False)
 
 
 def _check_reflected(network: Network, name: str, other: str, each: Neighbour) -> None:
@@ -129,7 +166,7 @@ def _check_reflected(network: Network, name: str, other: str, each: Neighbour) -
         config.tell(each.line, "%s: nothing in the files makes the way to this address known to %s, which FRR then "
                     "does not resolve as the next hop of what is reflected from there; here it is. Let OSPF carry its "
                     "subnet; no rule says what FRR does, since none matches the router that a route is reflected from"
-                    % (short(each.line.text), some_of(lost)))
+                    % (short(each.line.text), listed(lost)))
 
 
 # Next hops at a border
@@ -152,10 +189,10 @@ def _check_next_hop(network: Network, name: str, other: str, each: Neighbour) ->
         config.tell(each.line, "%s: nothing in the files makes the way to this next hop known to %s, which FRR then "
                     "does not resolve, so that the routes are not used there; here they are. FRR needs "
                     "`next-hop-self` (write %s), or the subnet in OSPF; %s" % (
-                        told, some_of(lost), heading, _denials(network, name, lost, network.asn_of(other))))
+                        told, listed(lost), heading, _denials(network, name, lost, network.asn_of(other))))
     elif len(_borders(network, config.asn)) > 1 and {"static", "external", "bgp"} & set(ways.values()):
         config.tell(each.line, "%s: the interior reaches this next hop by an external or static route, whose cost "
-                    "counts in FRR; here the costs of the links to it count" % told)
+                    "counts in FRR; here the costs of the links to it count" % told, is_certain=False)
     elif any(network.routers[near].subnet_of(where) is None for near in _near(network, name, other)):
         config.tell(each.line, "%s: %s has links to several routers of AS %d, and is one next hop here, which each "
                     "router reaches by the nearest link; in FRR each link has its own. "
@@ -167,15 +204,14 @@ def _denials(network: Network, name: str, lost: List[str], asn: int) -> str:
     direct = [there for there, _ in network.peers_of(name) if there in lost]
     if not direct:
         return "no rule says what FRR does of what a reflector sends on"
-    rules = " ".join("`rule %s %s out first %d deny`" % (name, there, asn) for there in direct[:SHOWN])
-    more = ", and so towards the %d others" % (len(direct) - SHOWN) if len(direct) > SHOWN else ""
-    return "for what FRR does write %s%s" % (rules, more)
+    rules = ["`rule %s %s out first %d deny`" % (name, there, asn) for there in direct]
+    return "for what FRR does write %s" % listed(rules, SHOWN)
 
 
 def _run_together(network: Network, name: str, other: str) -> bool:
     """Whether OSPF or IS-IS runs over the link with a router of another AS."""
     link = network.links.get(frozenset((name, other)))
-    if link is None or link.there is None or link.own is None or link.opposite is None:
+    if link is None or link.there is None or link.own is None or link.opposite is None or link.difference:
         return False
     return runs_over(network.routers[link.one], link.here, link.own) and runs_over(network.routers[link.other],
         link.there, link.opposite)

@@ -2,6 +2,7 @@
 not taken over."""
 from __future__ import annotations
 
+import re
 from collections import Counter
 from dataclasses import dataclass, field
 from typing import Callable, Dict, List, NamedTuple, Optional, Pattern, Set, Tuple
@@ -30,11 +31,31 @@ ALL: Prefix = (0, 0)
 
 
 class Told(NamedTuple):
-    """What is not taken over, and whether it may decide a route."""
+    """What is not taken over, whether it may decide a route, and whether it is sure to change this network."""
     file: str
     line: int
     text: str
     decides: bool = True
+    is_certain: bool = True
+
+
+Said = Tuple[str, Line]
+
+
+@dataclass
+class Hello:
+    """What a router says over an interface in OSPF or IS-IS, by the names of its settings, each with the line that
+    says so; `has_keys` are the passwords that it takes from the other end."""
+    settings: Dict[str, Said] = field(default_factory=dict)
+    has_keys: Tuple[str, ...] = ()
+
+    def word(self, name: str) -> str:
+        """What a setting says; empty where it says nothing."""
+        return self.settings.get(name, ("", NOWHERE))[0]
+
+    def at(self, name: str) -> Line:
+        """The line of a setting."""
+        return self.settings.get(name, ("", NOWHERE))[1]
 
 
 @dataclass
@@ -45,6 +66,8 @@ class Address:
     line: Line
     opposite: str = ""
     subnet: Prefix = field(init=False)
+    # What the router says over it in OSPF and in IS-IS, by the protocol's name.
+    hellos: Dict[str, Hello] = field(default_factory=dict)
 
     def __post_init__(self) -> None:
         value = address(self.opposite or self.own) or 0
@@ -63,6 +86,9 @@ class Interface:
     addresses: List[Address] = field(default_factory=list)
     interior: Optional[Line] = None
     six: List[Tuple[str, str]] = field(default_factory=list)
+    # What it says of OSPF and IS-IS, by the first words of the line.
+    said: Dict[str, Said] = field(default_factory=dict)
+    keys: Dict[str, Said] = field(default_factory=dict)
 
 
 @dataclass
@@ -186,6 +212,7 @@ class Config:
         self.community_lists: Dict[str, Entries] = {}
         self.has_ospf = self.has_isis = False
         self.ospf_networks: List[Prefix] = []
+        self.ospf_areas: List[Said] = []
         self.areas: Dict[str, Line] = {}
         self.passive: Dict[str, bool] = {}
         # The words of all lines but those that make a list, and of the heads of route maps.
@@ -193,15 +220,18 @@ class Config:
         # Interfaces that other lines ask for by their names.
         self.asked: List[Tuple[Line, str]] = []
         self.ospf_redistributes: Dict[str, Line] = {}
+        # What OSPF's and IS-IS' own blocks say, by the first words of the line.
+        self.said: Dict[str, Said] = {}
         self.told: Dict[Told, None] = {}
         self.counts: "Counter[str]" = Counter()
         self.counted: Set[Line] = set()
 
     # What is told and counted
 
-    def tell(self, line: Line, text: str, decides: bool = True) -> None:
-        """Keeps what is not taken over, with the line that it is about."""
-        self.told[Told(line.file, line.number, text, decides)] = None
+    def tell(self, line: Line, text: str, decides: bool = True, is_certain: bool = True) -> None:
+        """Keeps what is not taken over, with the line that it is about; what is sure to change this network is told
+        before what may."""
+        self.told[Told(line.file, line.number, text, decides, is_certain)] = None
 
     def count(self, said: str, how_many: int = 1) -> None:
         """Counts lines that decide no route."""
@@ -225,9 +255,14 @@ class Config:
         elif positive != text and (is_off or line.undoes or consequence(kind, positive) is not None):
             self.count("what is off by default")
         else:
-            self.tell(line, "%s: from-frr does not know this line" % short(line.text))
+            self.tell(line, "%s: %s" % (short(line.text), no_address(text) or "from-frr does not know this line"))
 
     # Defaults, which follow the profile and the version
+
+    @property
+    def hold_time(self) -> str:
+        """The hold time that it gives without a line, in seconds."""
+        return "180" if self.profile != "datacenter" else "9"
 
     def is_on(self, flag: str) -> bool:
         """Whether a setting of the router is on, by its line or by default."""
@@ -268,6 +303,20 @@ def short(text: str) -> str:
     """A line as it is quoted: not too long, and what cannot be shown escaped."""
     shown = "".join(each if each.isprintable() else each.encode("unicode_escape").decode() for each in text)
     return shown if len(shown) <= 70 else shown[:67] + "..."
+
+
+_DOTTED = re.compile(r"(?<![\w.:])([0-9]+(?:\.[0-9]+){2,3})(?:/[0-9]+)?(?![\w.:])")
+
+
+def no_address(text: str) -> str:
+    """What is wrong with the first word of a line that is meant for an address and is none; else empty."""
+    wrong = next((found for found in _DOTTED.findall(text) if address(found) is None), "")
+    return "`%s` is no address, four numbers of 0 to 255 as in 10.0.0.1" % short(wrong) if wrong else ""
+
+
+def place(line: Line) -> str:
+    """A line as it is named from another one."""
+    return "%s:%d" % (line.file, line.number)
 
 
 Taker = Tuple[Pattern[str], Callable[..., Optional[bool]]]

@@ -1,11 +1,13 @@
 """The network that all files make: routers with their names and ASes, links and sessions."""
 from __future__ import annotations
 
+from collections import Counter
 from dataclasses import dataclass, field
 from typing import Dict, FrozenSet, Iterator, List, Optional, Set, Tuple
 
-from ...program.language import address, by_address, number
+from ...program.language import address, by_address, contains, number
 from ...program.mistakes import Mistake
+from .adjacencies import Difference, difference
 from .configuration import Address, Config, Interface, Neighbour, short
 from .igp import is_loopback
 
@@ -23,10 +25,13 @@ class Link:
     own: Optional[Address] = None
     opposite: Optional[Address] = None
     others: List["Link"] = field(default_factory=list)
+    # Why OSPF or IS-IS does not use it, and whether it counts as failed for that.
+    difference: Optional[Difference] = None
+    is_unused: bool = False
 
     @property
     def is_down(self) -> bool:
-        return self.here.is_down or bool(self.there and self.there.is_down)
+        return self.here.is_down or bool(self.there and self.there.is_down) or self.is_unused
 
     @property
     def ends(self) -> Set[str]:
@@ -52,7 +57,9 @@ class Network:
         self._find_links()
         self._give_interior_routers_ases()
         self._find_sessions()
+        self._find_differences()
         self.reflectors = {name for (name, _), each in self.peers.items() if each.has("route-reflector-client")}
+        self._hostnames = Counter(config.hostname for config in self.routers.values())
         self._peers_of: Dict[str, List[Tuple[str, Neighbour]]] = {}
         for (name, other), each in self.peers.items():
             self._peers_of.setdefault(name, []).append((other, each))
@@ -64,6 +71,11 @@ class Network:
     def asn_of(self, name: str) -> int:
         """The AS of a router or virtual peer."""
         return self.virtuals[name] if name in self.virtuals else self.routers[name].asn or 0
+
+    def called(self, name: str) -> str:
+        """A router by its name where the files give one to it alone, else by its address."""
+        hostname = self.routers[name].hostname if name in self.routers else ""
+        return hostname if hostname and self._hostnames[hostname] == 1 else name
 
     def peers_of(self, name: str) -> List[Tuple[str, Neighbour]]:
         """Who a router has sessions with, and what it says of each."""
@@ -90,7 +102,7 @@ class Network:
         found = max(free, key=by_address)
         is_inside = other.asn == config.asn
         what = "FRR brings no session of the two up" if is_inside else "in FRR the router-ids are compared last"
-        config.tell(config.line, "%s: the router-id %s is that of %s, too; this router is %s here. %s" % (
+        config.tell(config.line, "%s: the router-id %s is that of %s, too; this router is `%s` here. %s" % (
             short(config.line.text or "router"), name, other.name, found, what))
         return found
 
@@ -176,6 +188,34 @@ class Network:
         self.shared = [ends for ends in ([end for end in ends if end[0] != name] for ends in self.shared)
                        if len({end[0] for end in ends}) > 2]
 
+    # Links whose ends do not become neighbours in OSPF or IS-IS
+
+    def _find_differences(self) -> None:
+        """Says which links the interior does not use, since their ends say other things; of several links of two
+        routers one that is used stands for all."""
+        crowded = [id(end[1]) for ends in self.shared for end in ends]
+        for key, link in list(self.links.items()):
+            for each in [link, *link.others]:
+                if each.own and each.opposite and each.there:
+                    each.difference = difference(each.own.hellos, each.opposite.hellos,
+                                                 (each.own.own, each.opposite.own), id(each.here) not in crowded)
+            used = [each for each in [link, *link.others] if each.difference is None and not each.is_down]
+            if link.difference and used and not link.is_down:
+                chosen = min(used, key=lambda each: each.here.cost)
+                chosen.others = [each for each in [link, *link.others] if each is not chosen]
+                self.links[key] = chosen
+            elif link.difference and not self.is_external(link.one, link.other):
+                link.is_unused = not self.is_kept(link)
+
+    def is_kept(self, link: Link) -> bool:
+        """Whether a session, or a static route, uses a link without OSPF and IS-IS."""
+        sessions = [each.name for key in ((link.one, link.other), (link.other, link.one))
+                    for each in [self.peers.get(key)] if each]
+        ways = [static.way for end in link.ends for static in self.routers[end].statics]
+        found = [address(each) for each in [*sessions, *ways]]
+        subnet = link.own.subnet if link.own else (0, 0)
+        return link.here.name in ways or any(contains(subnet, (each, 32)) for each in found if each is not None)
+
     # Sessions
 
     def _find_sessions(self) -> None:
@@ -238,6 +278,8 @@ class Network:
 
     def _router_at(self, config: Config, each: Neighbour, name: str, other: str, asn: Optional[int]) -> str:
         there, own, said = self.routers[other].asn or 0, config.asn or 0, short(each.line.text)
+        if str(asn) in self._spoken_for(other, name):
+            asn = there
         if there != asn and not (each.remote == "external" and there != own):
             config.tell(each.line, "%s: it is %s of AS %d, and not of AS %s, so that no session comes up" % (
                 said, other, there, each.remote))
@@ -247,6 +289,12 @@ class Network:
         else:
             return other
         return ""
+
+    def _spoken_for(self, name: str, other: str) -> List[str]:
+        """The ASes for which a router speaks to another one by `local-as`, as words."""
+        config = self.routers[name]
+        return [config.settled(each).word("local-as").split(" ")[0] for each in config.neighbours.values()
+                if self.owners.get(each.name) == other]
 
     def _virtual(self, name: str, config: Config, each: Neighbour, asn: int) -> None:
         peer = each.name

@@ -9,6 +9,7 @@ from .igp import carried, has_interior
 from .network import Network
 from .policy import Action, Match, Rules, covers, is_, meet
 from .regions import shown
+from .report import listed
 
 OWN = 100
 # FRR redistributes no subnet of these: 127.0.0.0/8 and 169.254.0.0/16.
@@ -99,10 +100,10 @@ def _tell_weights(config: Config, owns: List[Own], name: str, border: str, peer:
             losing.setdefault(own.line, []).append(own.where)
             above = max(above, highest)
     for line, found in losing.items():
-        more = " and %d prefixes more" % (len(found) - 1) if len(found) > 1 else ""
-        config.tell(line, "%s: FRR prefers %s's own route to %s%s by weight; here a route of %s may have preference "
+        config.tell(line, "%s: FRR prefers %s's own route to %s by weight; here a route of %s may have preference "
                     "%d at %s, and wins. For what FRR does put `rule %s %s in is %s permit` first there" % (
-            short(line.text), name, shown(found[0]), more, peer, above, border, border, peer, shown(found[0])))
+            short(line.text), name, listed([shown(where) for where in found]), peer, above, border, border, peer,
+            shown(found[0])), is_certain=False)
 
 
 def _preferences(rules: Rules[Action], wanted: Match) -> Iterator[int]:

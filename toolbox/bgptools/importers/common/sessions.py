@@ -1,13 +1,14 @@
 """What becomes of each session in FRR: which never come up, and which go away with another link than here."""
 from __future__ import annotations
 
-from typing import Iterator, List, Optional, Set, Tuple
+from typing import Iterator, List, NamedTuple, Optional, Set, Tuple
 
 from ...network.graph_search import hops, neighbours
 from ...program.language import by_address
-from .configuration import Config, Neighbour, short
+from .configuration import NOWHERE, Config, Line, Neighbour, place, short
 from .igp import interface_with, is_loopback, is_static, knows
 from .network import Link, Network
+from .opening import Openings, refusal
 
 ROLES = {"provider": "customer", "customer": "provider", "peer": "peer", "rs-server": "rs-client",
          "rs-client": "rs-server"}
@@ -22,42 +23,76 @@ def pairs(network: Network) -> List[Tuple[str, str]]:
     return [(one, other) for one, other in sorted(found, key=lambda both: [by_address(a) for a in both])]
 
 
-def check(network: Network) -> None:
+class Reason(NamedTuple):
+    """Why a session never comes up: by a line of one end, and one of the other where that has one. The text is empty
+    where the line says it itself."""
+    config: Config
+    line: Line
+    said: str
+    other: Line = NOWHERE
+
+    def __str__(self) -> str:
+        return "%s: %s%s; it is stopped here, too" % (short(self.line.text), self.said, " (%s)" % place(self.other)
+                                                      if self.other.file else "")
+
+
+def check(network: Network, openings: Openings) -> None:
     """Stops the sessions that FRR never brings up, and tells those that it keeps otherwise."""
     for one, other in pairs(network):
         if (one, other) not in network.peers:
             one, other = other, one
-        reason = _reason(network, one, other) or _reason(network, other, one)
+        reason = (_reason(network, one, other) or _reason(network, other, one)
+                  or _refusal(network, openings, one, other) or _refusal(network, openings, other, one))
         if reason is not None:
             network.stopped.add(frozenset((one, other)))
-            config, each, said = reason
-            if said:
-                config.tell(each.line, "%s: %s; it is stopped here, too" % (short(each.line.text), said), False)
+            if reason.said:
+                reason.config.tell(reason.line, str(reason), False)
         else:
             _check_addresses(network, one, other)
             _check_roles(network, one, other)
             _check_roles(network, other, one)
 
 
-Reason = Tuple[Config, Neighbour, str]
-
-
 def _reason(network: Network, one: str, other: str) -> Optional[Reason]:
-    """Why a session never comes up, or carries no route, by what one end says; the text is empty where the line says
-    it itself."""
+    """Why a session never comes up, or carries no route, by what one end says."""
     if (one, other) not in network.peers:
         return None
     config, each, back = network.routers[one], network.peers[one, other], network.peers.get((other, one))
     if each.has("shutdown") or config.flags.get("bgp shutdown", (False, None))[0]:
-        return config, each, ""
+        return Reason(config, each.line, "")
     if not each.flags.get("activate", (config.is_on("bgp default ipv4-unicast"), each.line))[0]:
-        return config, each, "it is not activated for IPv4 unicast, so that the session carries no such route"
+        return Reason(config, each.line, "it is not activated for IPv4 unicast, so that the session carries no "
+                      "such route")
     if back is not None and each.has("passive") and back.has("passive"):
-        return config, each, "both ends wait for the other to begin, so that the session never comes up"
+        return Reason(config, each.line, "both ends wait for the other to begin, so that the session never comes up",
+                      back.at("passive"))
     if back is not None and each.word("password") != back.word("password"):
-        return config, each, "the ends have different passwords, so that the session never comes up"
-    said = _role_reason(each, back) or _distance_reason(network, config, each, one, other)
-    return (config, each, said) if said else None
+        return Reason(config, each.line, "the ends have different passwords, so that the session never comes up",
+                      back.at("password"))
+    said = _role_reason(each, back)
+    if said and back is not None:
+        return Reason(config, each.line, said, back.at("local-role"))
+    said = _distance_reason(network, config, each, one, other)
+    if not said and back is not None and _is_unanswered(config, each, network.routers[other], back):
+        return Reason(config, each.line, "neither end opens the session from the address that the other one has for it "
+                      "(`update-source` is missing), so that the session never comes up", back.line)
+    return Reason(config, each.line, said) if said else None
+
+
+def _refusal(network: Network, openings: Openings, one: str, other: str) -> Optional[Reason]:
+    """Why an end does not take what the other one sends."""
+    each, back = network.peers.get((one, other)), network.peers.get((other, one))
+    if each is None or back is None:
+        return None
+    config, is_external = network.routers[one], network.is_external(one, other)
+    spoken = back.word("local-as").split(" ")
+    is_meant = each.remote == spoken[0] or "dual-as" in spoken or not each.remote.isdigit()
+    if is_external and spoken != [""] and not is_meant:
+        return Reason(config, each.line, "the other end speaks for AS %s, so that the session never comes up" %
+                      spoken[0], back.at("local-as"))
+    found = refusal(openings(config, each, is_external), openings(network.routers[other], back, is_external))
+    said = "%s, so that the session never comes up" % found.said if found else ""
+    return Reason(config, found.here, said, found.there) if found else None
 
 
 def _role_reason(each: Neighbour, back: Optional[Neighbour]) -> str:
@@ -100,9 +135,6 @@ def _check_addresses(network: Network, one: str, other: str) -> None:
         each = network.peers.get((here, there))
         if each is not None and there in network.routers and not each.word("interface"):
             _check_way(network, here, there, each)
-    back = network.peers.get((other, one))
-    if back is not None and not network.peers[one, other].word("interface"):
-        _check_sources(network, one, other)
 
 
 def _check_way(network: Network, here: str, there: str, each: Neighbour) -> None:
@@ -148,15 +180,12 @@ def has_way(network: Network, one: str, other: str, without: Link) -> bool:
     return other in hops(neighbours(inside), one)
 
 
-def _check_sources(network: Network, one: str, other: str) -> None:
-    """A session comes up where one end opens it from the address that the other one has for it."""
-    config, each, back = network.routers[one], network.peers[one, other], network.peers[other, one]
-    forth_from, back_from = source(config, each), source(network.routers[other], back)
-    if back.name in forth_from or each.name in back_from or not forth_from or not back_from:
-        return
-    config.tell(each.line, "%s: neither end opens the session from the address that the other one has for it "
-                "(`update-source` is missing), so that FRR never brings it up; "
-                "write `stop %s %s`" % (short(each.line.text), one, other))
+def _is_unanswered(config: Config, each: Neighbour, there: Config, back: Neighbour) -> bool:
+    """Whether no end opens a session from the address that the other one has for it."""
+    if each.word("interface") or back.word("interface"):
+        return False
+    forth_from, back_from = source(config, each), source(there, back)
+    return not (back.name in forth_from or each.name in back_from or not forth_from or not back_from)
 
 
 def source(config: Config, each: Neighbour) -> Set[str]:

@@ -1,16 +1,15 @@
 """The script that is made of routers' configurations: what all kinds of these have in common."""
 from __future__ import annotations
 
-import sys
-from collections import Counter
 from typing import Dict, List, Optional, Set, Tuple
 
 from ...program.language import address, by_address
-from ...program.mistakes import CHANGED, WRONG, Mistake
+from ...program.mistakes import Mistake
 from ...program.names import mark
 from . import igp_costs, origins, sessions
-from .configuration import Config, Neighbour, Told, sets_some, short
+from .configuration import Config, Neighbour, sets_some, short
 from .network import Link, Network
+from .opening import Opening
 from .origins import Own
 from .policy import ANY, DENY, MOST_RULES, PERMIT, Action, Match, Rules, is_, shortened, without_covered
 from .regions import Place, World, shown
@@ -30,7 +29,7 @@ class Translation:
         self.world = self._world()
         self.policies: Dict[Tuple[str, str, str], Rules[Action]] = {}
         self.owns = {name: self._owns(name) for name in network.routers}
-        sessions.check(network)
+        sessions.check(network, self._opening)
         self._routers()
         self._links_and_sessions()
         for name, config in network.routers.items():
@@ -44,6 +43,10 @@ class Translation:
 
     def _check(self) -> None:
         """Tells what routers of this kind do otherwise than a script says."""
+        raise NotImplementedError
+
+    def _opening(self, config: Config, each: Neighbour, is_external: bool) -> Opening:
+        """What an end of a session sends first, and takes of the other one."""
         raise NotImplementedError
 
     def _owns(self, name: str) -> List[Own]:
@@ -197,21 +200,3 @@ class Translation:
 
 def _tells(each: Neighbour) -> bool:
     return each.has("default-originate") and not each.word("default-map")
-
-
-def report(network: Network, told: List[Told], is_strict: bool) -> int:
-    """Tells what is not taken over, and counts what decides no route; the exit status."""
-    told = told + [each for config in network.read for each in sorted(config.told)]
-    for each in told:
-        print("%s: %s: %s" % ("%s:%d" % (each.file, each.line) if each.line else each.file, "not taken over"
-                              if each.decides else "note", each.text), file=sys.stderr)
-    counts: "Counter[str]" = sum((config.counts for config in network.read), Counter())
-    if counts:
-        print("%d lines that decide no route were left out: %s" % (sum(counts.values()),
-            ", ".join("%s %d" % each for each in sorted(counts.items(),
-                                                        key=lambda each: (-each[1], each[0].lower())))),
-                                                        file=sys.stderr)
-    if is_strict and any(each.decides for each in told):
-        print("nothing is written, since --strict treats each reported line as an error", file=sys.stderr)
-        return WRONG
-    return CHANGED if any(each.decides for each in told) else 0

@@ -10,8 +10,9 @@ from ...program.language import address, number, show_address
 from ...program.names import TOO_LONG, fits
 from ..common.configuration import (
     NOWHERE, Address, Config, Entries, Entry, Interface, Item, Line, Neighbour, Origin, Static, Taker, loose_prefix,
-    short, taken
+    no_address, short, taken
 )
+from . import interior
 from .communities import given, numbers_of
 from .lines import Block
 from .omission_table import about_block
@@ -94,8 +95,8 @@ def _leave_line(config: Config, block: Block, line: Line) -> None:
     if found and found.group(2) in config.neighbours_six:
         config.count("IPv6")
     elif found and not (found.group(1) or found.group(2) in config.neighbours or found.group(2) in config.groups):
-        config.tell(line, "%s: no line before makes this neighbor, by `remote-as` or `peer-group`; FRR does not take "
-                    "it" % short(line.text))
+        config.tell(line, "%s: %s" % (short(line.text), no_address(found.group(2)) or "no line before makes this "
+                    "neighbor, by `remote-as` or `peer-group`; FRR does not take it"))
     else:
         config.leave_out("neighbour" if found else block.kind, line, no + said, is_off)
 
@@ -284,10 +285,12 @@ def _shutdown(config: Config, interface: Interface, line: Line, no: Optional[str
     interface.is_down = not no
 
 
-def _interior(config: Config, interface: Interface, line: Line, area: Optional[str]) -> Optional[bool]:
+def _interior(config: Config, interface: Interface, line: Line, area: Optional[str],
+              tag: Optional[str]) -> Optional[bool]:
     if area and _area(config, line, area) is False:
         return False
     interface.interior = line
+    interface.said["area" if area else "isis"] = (area or tag or "", line)
     return None
 
 
@@ -302,6 +305,7 @@ def _ospf_network(config: Config, line: Line, where: str, area: str) -> Optional
     if found is None or _area(config, line, area) is False:
         return False
     config.ospf_networks.append(found)
+    config.ospf_areas.append((area, line))
     return None
 
 
@@ -420,6 +424,7 @@ def _hops(here: Neighbour, no: Optional[str], line: Line, flag: str, count: Opti
     if count and number(count, 1, 255) is None:
         return False
     _neighbour_flag(here, no, line, flag)
+    here.words[flag + " hops"] = (count or "", line)
     return None
 
 
@@ -434,11 +439,37 @@ def _filter(here: Neighbour, no: Optional[str], line: Line, kind: str, name: str
         here.filters[kind, way] = (name, line)
 
 
-def _setting(here: Neighbour, no: Optional[str], line: Line, name: str, said: str) -> None:
+def _setting(here: Neighbour, no: Optional[str], line: Line, name: str, said: str) -> Optional[bool]:
     if no:
         here.words.pop(name, None)
+    elif name == "update-source" and no_address(said):
+        return False
     else:
         here.words[name] = (said, line)
+    return None
+
+
+def _timers(here: Neighbour, no: Optional[str], line: Line, alive: Optional[str],
+            hold: Optional[str]) -> Optional[bool]:
+    if not no and not interior.are_timers(alive or "", hold or ""):
+        return False
+    _setting(here, no, line, "hold", hold or "")
+    return None
+
+
+def _local_as(here: Neighbour, no: Optional[str], line: Line, said: str) -> bool:
+    """The AS that the other end sees; it is told, too."""
+    if number(said.split(" ")[0], 1) is not None:
+        _setting(here, no, line, "local-as", said)
+    return False
+
+
+def _watched(here: Neighbour, no: Optional[str], line: Line, said: Optional[str]) -> bool:
+    """A session that BFD watches, which alone decides no route."""
+    here.flags["bfd"] = (not no, line)
+    if (said or "").startswith("strict"):
+        here.flags["bfd-strict"] = (not no, line)
+    return False
 
 
 def _default_originate(here: Neighbour, no: Optional[str], line: Line, said: Optional[str]) -> None:
@@ -512,14 +543,15 @@ TAKERS: Dict[str, List[Taker]] = {
         (r"ip address ([0-9.]+)(?:/[0-9]+)? peer ([0-9.]+/[0-9]+)", _address_with_peer),
         (r"ipv6 address (\S+)", _address_six), (r"(?:ip )?ospf cost ([0-9]+)(?: [0-9.]+)?", _cost),
         (r"isis metric ([0-9]+)", _isis_metric), (r"(no )?shut(?:down)?", _shutdown),
-        (r"ip ospf(?: [0-9]+)? area ([0-9.]+)(?: [0-9.]+)?|ip router isis \S+", _interior),
-        (r"(no )?(?:ip ospf|isis) passive", _ospf_passive)),
+        (r"ip ospf(?: [0-9]+)? area ([0-9.]+)(?: [0-9.]+)?|ip router isis (\S+)", _interior),
+        (r"(no )?(?:ip ospf|isis) passive", _ospf_passive), *interior.INTERFACE),
     "ospf": _takers(
-        (r"(?:ospf )?router-id (\S+)", _interior_identifier), (r"network ([0-9.]+/[0-9]+) area (\S+)", _ospf_network),
+        *interior.OSPF, (r"network ([0-9.]+/[0-9]+) area (\S+)", _ospf_network),
         (r"(no )?passive-interface (\S+)(?: [0-9.]+)?", _passive),
         (r"redistribute (connected|static)", _ospf_redistribute)),
-    "isis": _takers((r"redistribute ipv4 (connected|static) \S+", _ospf_redistribute)),
+    "isis": _takers((r"redistribute ipv4 (connected|static) \S+", _ospf_redistribute), *interior.ISIS),
     "bgp": _takers(
+        *interior.BGP,
         (r"bgp router-id (\S+)", _identifier), (r"bgp cluster-id (\S+)", _cluster),
         (r"(no )?(bgp (?:ebgp-requires-policy|network import-check|deterministic-med|always-compare-med|bestpath "
          r"compare-routerid|disable-ebgp-connected-route-check))", _flag),
@@ -544,5 +576,6 @@ OF_NEIGHBOUR: List[Taker] = _takers(
     (r"(ebgp-multihop)(?: ([0-9]+))?", _hops), (r"(ttl-security) hops ([0-9]+)", _hops),
     (r"next-hop-self (?:force|all)", _force),
     (r"(route-map|prefix-list|filter-list|distribute-list) (\S+) (in|out)", _filter),
-    (r"(update-source|password|local-role) (.+)", _setting),
+    (r"(update-source|password|local-role) (.+)", _setting), (r"timers(?: ([0-9]+) ([0-9]+))?", _timers),
+    (r"local-as (.+)", _local_as), (r"bfd(?: (.+))?", _watched),
     (r"default-originate(?: route-map (\S+))?", _default_originate), (r"weight 0|port 179", _as_without))

@@ -5,9 +5,10 @@ from __future__ import annotations
 from typing import Dict, List
 
 from ...program.language import address
-from ..common.checks import check_network, compares_med, external_peers, some_of
+from ..common.checks import check_network, compares_med, external_peers
 from ..common.configuration import Config, Neighbour, short
 from ..common.network import Network
+from ..common.report import listed
 from .rules import requires_policy
 
 # What FRR does of MED without `bgp deterministic-med`.
@@ -23,6 +24,7 @@ def check(network: Network) -> None:
     for name, config in network.routers.items():
         _check_required(network, name, config)
         _check_six(config)
+        _check_net(config)
         _check_interfaces(config)
         _check_unused(config)
 
@@ -50,7 +52,8 @@ def _check_choice(network: Network) -> None:
         config = network.routers[oldest[0]]
         config.tell(config.line, "%s: of external routes that are alike FRR keeps the one that came first, and here "
                     "the lower identifier wins; so it is at %s. "
-                    "`bgp bestpath compare-routerid` makes FRR do the same" % (short(config.line.text), some_of(oldest)))
+                    "`bgp bestpath compare-routerid` makes FRR do the same" % (short(config.line.text), listed(oldest)),
+                    is_certain=False)
     _check_order_of_med(network)
 
 
@@ -63,13 +66,13 @@ def _check_order_of_med(network: Network) -> None:
     for name in by_line:
         _, line = ordered[name].flags["bgp deterministic-med"]
         ordered[name].tell(line, "%s: FRR %s. `bgp deterministic-med` makes FRR do the same" % (
-            short(line.text), _IN_ORDER))
+            short(line.text), _IN_ORDER), is_certain=False)
     grouped = [name for name in ordered if name not in by_line and compares_med(network, name)]
     if grouped:
         config = ordered[grouped[0]]
         config.tell(config.line, "%s: without `bgp deterministic-med`, which is off by default but in the datacenter "
                     "profile, FRR %s; so it is at %s. `bgp deterministic-med` makes FRR do the same" % (
-                        short(config.line.text), _IN_ORDER, some_of(grouped)))
+                        short(config.line.text), _IN_ORDER, listed(grouped)), is_certain=False)
 
 
 def _check_required(network: Network, name: str, config: Config) -> None:
@@ -95,6 +98,14 @@ def _check_six(config: Config) -> None:
         if each.remote and each.flags.get("activate", (config.is_on("bgp default ipv4-unicast"), each.line))[0]:
             config.tell(each.line, "%s: FRR tells routes of IPv4 over this session, too (`no neighbor %s activate` "
                         "ends that); here it is not made" % (short(each.line.text), each.name))
+
+
+def _check_net(config: Config) -> None:
+    """A router whose IS-IS has no identifier, so that it does not run."""
+    running = [interface.said["isis"][1] for interface in config.interfaces.values() if "isis" in interface.said]
+    if config.has_isis and running and "net" not in config.said:
+        config.tell(running[0], "%s: there is no `net` below `router isis`, so that FRR runs no IS-IS; here its links are "
+                    "used. Write `net`, or `fail` for each link" % short(running[0].text))
 
 
 def _check_interfaces(config: Config) -> None:

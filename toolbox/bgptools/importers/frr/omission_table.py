@@ -21,13 +21,13 @@ COUNTED.update({
     "interface": table(
         ("description", "descriptions"), ("ipv6", "IPv6"), ("bfd|ip ospf bfd|isis bfd", "bfd"),
         ("(ip )?(pim|igmp|multicast|mroute)|multicast|ip pim", "multicast"),
-        (r"(ip )?ospf (hello-interval|dead-interval|retransmit-interval|transmit-delay|prefix-suppression)", "timers"),
-        (r"ip ospf (network|priority|mtu-ignore|authentication\S*|message-digest-key|passive)", "OSPF settings"),
-        (r"isis (hello-\S+|csnp-interval|psnp-interval|circuit-type|network|passive|password|priority|"
-         r"three-way-handshake|fast-reroute)|ipv6 router isis", "IS-IS settings"),
+        (r"(ip )?ospf (retransmit-interval|transmit-delay|prefix-suppression)", "timers"),
+        (r"ip ospf (mtu-ignore|passive)", "OSPF settings"),
+        (r"isis (hello-\S+|csnp-interval|psnp-interval|passive|priority|"
+         r"fast-reroute)|ipv6 router isis", "IS-IS settings"),
         ("mpls|link-params|evpn|link-detect|mtu|ip nhrp", "settings of links")),
     "bgp": table(
-        ("timers|bgp (keepalive|minimum-holdtime|update-delay|coalesce-time|route-map "
+        ("bgp (keepalive|update-delay|coalesce-time|route-map "
          "delay-timer|conditional-advertisement|nexthop-trigger)|update-delay|"
          "coalesce-time|write-quanta|read-quanta", "timers"),
         ("bgp (graceful-restart|long-lived-graceful-restart|hard-administrative-reset|fast-convergence|"
@@ -42,8 +42,8 @@ COUNTED.update({
          "reflection|enforce-first-as|bestpath peer-type|network import-check)",
          "what holds here always")),
     "neighbour": table(
-        ("timers|advertisement-interval|shutdown rtt", "timers"), ("bfd", "bfd"), ("description", "descriptions"),
-        ("graceful-restart|graceful-restart-helper|graceful-restart-disable", "restarts"),
+        ("timers (connect|delayopen)|advertisement-interval|shutdown rtt", "timers"), ("bfd", "bfd"),
+        ("description", "descriptions"), ("graceful-restart|graceful-restart-helper|graceful-restart-disable", "restarts"),
         ("soft-reconfiguration|send-community|solo|strict-capability-match|override-capability|"
          "dont-capability-negotiate|capability(?! orf)|disable-link-bw-encoding-ieee|extended-optional-parameters|"
          "disable-addpath-rx|tcp-mss|enforce-first-as|sender-as-path-loop-detection|extended-link-bandwidth",
@@ -51,12 +51,12 @@ COUNTED.update({
     "ospf": table(
         ("timers|refresh", "timers"), ("log-adjacency-changes|log", "logs"),
         ("ospf (abr-type|rfc1583compatibility|opaque-lsa|write-multiplier|send-extra-data)|capability|"
-         "neighbor|compatible|maximum-paths|graceful-restart|mpls-te|router-info|segment-routing|bfd|distance|"
+         "compatible|maximum-paths|graceful-restart|mpls-te|router-info|segment-routing|bfd|distance|"
          "default-information|default-metric|proactive-arp|"
-         r"area \S+ (authentication|default-cost)|fast-reroute|write-multiplier|summary-address|aggregation",
+         r"area \S+ default-cost|fast-reroute|write-multiplier|summary-address|aggregation",
          "OSPF settings")),
-    "isis": table(("net|is-type|log-adjacency-changes|lsp-\\S+|spf-\\S+|hostname|metric-style|area-password|"
-                    "domain-password|purge-originator|timers|set-\\S+|max-lsp|topology|mpls|segment-routing|"
+    "isis": table(("log-adjacency-changes|lsp-\\S+|spf-\\S+|hostname|purge-originator|timers|set-\\S+|max-lsp|topology|"
+                   "mpls|segment-routing|"
                     "attached-bit|fast-reroute|dynamic-hostname|default-information|advertise", "IS-IS settings")),
     "map": table(
         ("description", "descriptions"),

@@ -4,11 +4,12 @@ from __future__ import annotations
 from typing import Dict, List, Optional, Tuple
 
 from ...program.language import contains
-from ..common.configuration import Config, Line, Origin, Prefix, short
+from ..common.configuration import Config, Line, Origin, Prefix, place, short
 from ..common.igp import carried, has_interior
 from ..common.network import Network
 from ..common.origins import OF_NO_NETWORK, OWN, Own, is_active
 from ..common.regions import shown
+from ..common.report import listed
 from .rules import judged
 
 
@@ -120,7 +121,7 @@ def tell_incomplete(network: Network) -> None:
              if origin.kind != "network"]
     if lines:
         config, line = lines[0]
-        more = " (and %d more lines like it)" % (len(lines) - 1) if len(lines) > 1 else ""
-        config.tell(line, "%s%s: FRR gives what is redistributed ORIGIN incomplete, and an own route has igp here; "
-                    "that decides where a prefix has several origins. `network` in its place makes FRR do the same" % (
-                        short(line.text), more))
+        more = "; so it is at %s" % listed([place(each) for _, each in lines[1:]]) if len(lines) > 1 else ""
+        config.tell(line, "%s: FRR gives what is redistributed ORIGIN incomplete, and an own route has igp here; "
+                    "that decides where a prefix has several origins%s. `network` in its place makes FRR do the "
+                    "same" % (short(line.text), more), is_certain=False)

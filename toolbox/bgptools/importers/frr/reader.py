@@ -4,6 +4,7 @@ from __future__ import annotations
 from typing import List
 
 from ..common.configuration import Config
+from . import adjacencies
 from .blocks import take_block
 from .lines import Block, blocks_of
 
@@ -14,4 +15,5 @@ def read(name: str, files: List[str]) -> Config:
     blocks: List[Block] = [block for path in files for block in blocks_of(path)]
     for block in blocks:
         take_block(made, block)
+    adjacencies.settle(made)
     return made

@@ -6,12 +6,14 @@ from typing import List, Optional, Tuple
 from ...program.mistakes import Mistake
 from ..common.configuration import Config, Neighbour, Told
 from ..common.network import Network
+from ..common.opening import Opening
 from ..common.origins import Own
 from ..common.policy import Action, Rules
 from ..common.regions import Place
 from ..common.translation import Translation
 from . import checks, origins
 from .files import routers_in
+from .opening import opening
 from .reader import read
 from .rules import policy
 
@@ -23,6 +25,10 @@ class FrrTranslation(Translation):
         """Tells what FRR does otherwise than a script says."""
         checks.check(self.network)
         origins.tell_incomplete(self.network)
+
+    def _opening(self, config: Config, each: Neighbour, is_external: bool) -> Opening:
+        """What an end of a session sends first, and takes of the other one."""
+        return opening(config, each, is_external)
 
     def _owns(self, name: str) -> List[Own]:
         """What a router originates."""
