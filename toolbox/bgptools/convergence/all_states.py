@@ -3,15 +3,15 @@ reached. Unlike `stable_states`, which sees where random orders end, it finds th
 from __future__ import annotations
 
 from dataclasses import dataclass, field
-from typing import Dict, List, Optional, Set, Tuple
+from typing import Dict, List, Optional
 
-from ..program.language import by_address, by_prefix
+from ..network.prefix_parts import prefix_of
+from ..program.language import by_prefix
 from ..program.mistakes import Mistake
 from ..program.names import Names
 from ..program.output import Progress
 from ..program.replies import Route, route_text
 from ..program.script import MARK, Line
-from ..network.prefix_parts import prefix_of
 from .assignments import CutOff, Routes, Search
 from .candidate_routes import Prober, roots_of
 from .delivery_script import DeliveryScript
@@ -73,7 +73,7 @@ def _states(routes: Routes, bound: int, found: PrefixStates) -> None:
     """The states of a prefix, from the routes that routers can hold."""
     if not routes.collect():
         return
-    for numbers in Search(routes, bound).stable(routes.choices):
+    for numbers in Search(routes, bound).stable():
         if len(found.states) >= STATES:
             raise CutOff("stable states", STATES)
         found.states.append(_state(routes, numbers))
@@ -125,32 +125,37 @@ def find(lines: List[Line], only: Optional[str] = None, bound: Optional[int] = N
     return found
 
 
-def script_of(lines: List[Line], found: PrefixStates, number: int) -> List[str]:
+def script_of(lines: List[Line], found: AllStates, number: int) -> List[str]:
     """The script with the deliveries that reach a state of this number, counted from 1. Mistake where there is none."""
-    if not 1 <= number <= len(found.states):
-        raise Mistake("--state %d: %s has %d stable states" % (number, found.prefix, len(found.states)))
-    state = found.states[number - 1]
+    if len(found.prefixes) != 1:
+        named = ", ".join(each.prefix for each in found.prefixes[:8])
+        raise Mistake("--state %d: --prefix P is expected, to say of which prefix: %s" % (number, named or "there is none"))
+    of = found.prefixes[0]
+    if not 1 <= number <= len(of.states):
+        raise Mistake("--state %d: a number of 1 to %d is expected; %s" % (number, len(of.states), _heading(of)) if of.states
+                      else "--state %d: %s" % (number, _heading(of)))
+    state = of.states[number - 1]
     if state.deliveries is None:
-        raise Mistake("--state %d: no deliveries were found that reach this state of %s" % (number, found.prefix))
+        raise Mistake("--state %d: no deliveries were found that reach this state of %s" % (number, of.prefix))
     written = DeliveryScript()
-    for line in part_of(undelivered(lines), found.prefix):
+    for line in part_of(undelivered(lines), of.prefix):
         written.take(line)
-    heading = "# step State %d of %d for %s" % (number, len(found.states), found.prefix)
+    heading = "# step State %d of %d for %s" % (number, len(of.states), of.prefix)
     return written.lines + [heading] + ["deliver %s %s" % way for way in state.deliveries]
 
 
-def _counted(count: int, word: str) -> str:
-    return "%d %s%s" % (count, word, "" if count == 1 else "s")
+def _counted(count: int, one: str, more: str) -> str:
+    return "%d %s" % (count, one if count == 1 else more)
 
 
 def _heading(found: PrefixStates) -> str:
     """How many states there are for a prefix."""
     if found.cut_off:
         return "%s: at least %s; the search was cut off at %s, and --bound N allows more" % (
-            found.prefix, _counted(len(found.states), "stable state"), found.cut_off)
+            found.prefix, _counted(len(found.states), "stable state", "stable states"), found.cut_off)
     if not found.states:
         return "%s: no stable state: it converges in no order of messages" % found.prefix
-    return "%s: %s" % (found.prefix, _counted(len(found.states), "stable state"))
+    return "%s: %s" % (found.prefix, _counted(len(found.states), "stable state", "stable states"))
 
 
 def _lines(found: PrefixStates, names: Names) -> List[str]:
@@ -159,7 +164,7 @@ def _lines(found: PrefixStates, names: Names) -> List[str]:
     for number, state in enumerate(found.states, 1):
         count = state.deliveries
         how = "not reached by the orders that were tried" if count is None else "reached by %s" % (
-            _counted(len(count), "delivery").replace("deliverys", "deliveries"))
+            _counted(len(count), "delivery", "deliveries"))
         lines.append("State %d: %s" % (number, how))
         for router in differing:
             route = _told(state, router, found.prefix)

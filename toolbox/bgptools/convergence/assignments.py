@@ -176,23 +176,32 @@ class Search:
     """Tries the choices that are left, one router after the other."""
 
     def __init__(self, routes: Routes, most: int) -> None:
-        self.routes, self.most, self.steps = routes, most, 0
+        self.routes, self.most = routes, most
 
-    def stable(self, choices: Choices) -> Iterator[Dict[str, Optional[int]]]:
-        """The stable states: the number of the route that each router chooses, or nothing."""
-        self.steps += 1
-        if self.steps > self.most:
-            raise CutOff("steps", self.most)
-        router = self._undecided(choices)
-        if router is None:
-            state = {router: next(iter(numbers)) for router, numbers in choices.of.items()}
-            yield {router: None if number == NONE else number for router, number in state.items()}
-            return
-        for number in sorted(choices.of[router]):
+    def stable(self) -> Iterator[Dict[str, Optional[int]]]:
+        """The stable states: the number of the route that each router chooses, or nothing. CutOff after so many steps."""
+        left, steps = [self.routes.choices], 0
+        while left:
+            choices = left.pop()
+            steps += 1
+            if steps > self.most:
+                raise CutOff("steps", self.most)
+            router = self._undecided(choices)
+            if router is None:
+                numbers = {each: next(iter(found)) for each, found in choices.of.items()}
+                yield {each: None if number == NONE else number for each, number in numbers.items()}
+            else:
+                left += self._tried(choices, router)
+
+    def _tried(self, choices: Choices, router: str) -> List[Choices]:
+        """What is left where a router chooses each of its routes, or nothing."""
+        found = []
+        for number in sorted(choices.of[router], reverse=True):
             tried = choices.copy()
             tried.of[router] = {number}
             if self.routes.narrow(tried, None, router):
-                yield from self.stable(tried)
+                found.append(tried)
+        return found
 
     def _undecided(self, choices: Choices) -> Optional[str]:
         """A router with the fewest choices that are more than one."""
