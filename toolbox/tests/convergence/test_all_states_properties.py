@@ -78,7 +78,7 @@ def path_of(node, route):
 
 def ends_of(script, result, number):
     """What the program says at the end of the script that reaches a state: whether no message waits, and the routes."""
-    lines = all_states.script_of(script, result, number)
+    lines = all_states.script_of(script, all_states.AllStates([result]), number)
     routers = list(result.states[0].chosen)
     replies = program("".join(line + "\n" for line in lines + ["quiet"] + ["best %s %s" % (each, PREFIX) for each in routers]))
     return replies[-len(routers) - 1], dict(zip(routers, replies[-len(routers):]))
