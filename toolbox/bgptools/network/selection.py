@@ -1,7 +1,7 @@
 """Which of its eligible routes a router chooses: the nine filters of docs/reference/language.md (RFC 4271, 9.1.2.2).
 
 The program alone says which routes a router has, and how they stand after import. A search over sets of such routes
-asks here: the program would have to be brought to each set. `test_all_states` compares both."""
+asks here: the program would have to be brought to each set. `test_all_states_properties` compares both."""
 from __future__ import annotations
 
 from dataclasses import dataclass

@@ -218,7 +218,7 @@ class Json(Case):
 
     def test_mistakes_stand_beside_the_documents(self):
         for name, words, told in (
-                ("converge", (DISAGREE,), "--json is for --states and --by-prefix"),
+                ("converge", (DISAGREE,), "--json is for --stable, --states and --by-prefix"),
                 ("explain", (DISAGREE, "9.9.9.9", "10.0.0.0/8"), "there is no router 9.9.9.9"),
                 ("play", ("nowhere.bgp",), "nowhere.bgp"), ("what-if", (DISAGREE, "nowhere.bgp"), "nowhere.bgp"),
                 ("sweep", (DISAGREE,), "which changes?")):

@@ -8,7 +8,11 @@ from common import program
 from hypothesis import given, settings, strategies
 from strategies import few
 
+from bgptools.change.explanation import explain
 from bgptools.convergence import all_states
+from bgptools.convergence.run import Run
+from bgptools.network.selection import Candidate, chosen
+from bgptools.program.replies import best
 from bgptools.program.script import lines_of
 
 PREFIX = "203.0.113.0/24"
@@ -179,7 +183,7 @@ def shown(state):
 
 
 class Reflection(unittest.TestCase):
-    @settings(max_examples=settings().max_examples // 2)
+    @few
     @given(reflecting_networks())
     def test_the_same_states_as_by_all_sources(self, network):
         lines, feeds = network
@@ -190,3 +194,19 @@ class Reflection(unittest.TestCase):
         for number, state in enumerate(result.states, 1):
             if state.deliveries is not None:
                 self.assertEqual(ends_of(script, result, number), ("yes", shown(state)))
+
+    @settings(max_examples=settings().max_examples // 16)
+    @given(reflecting_networks())
+    def test_the_program_chooses_the_same(self, network):
+        """Of all routes that a router may choose, as `explain` finds them."""
+        lines, feeds = network
+        with Run(most=200) as run:
+            for line in lines + feeds:
+                run.say(line)
+            run.converge()
+            for router in run.network.routers():
+                routes = [Candidate(each.source, each.attributes, each.is_external, each.cost, each.ident, each.peer)
+                          for each in explain(run, router, PREFIX) if not each.is_excluded]
+                found = chosen(routes, router in run.network.med_always)
+                said = best(run.ask(["best %s %s" % (router, PREFIX)])[0])
+                self.assertEqual(found and (found.source, found.attributes), said and (said.source, said.attributes))
