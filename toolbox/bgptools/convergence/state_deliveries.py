@@ -59,11 +59,11 @@ class Guide:
     """Delivers in the guided order."""
 
     def __init__(self, run: Run, state: State) -> None:
-        self.run, self.state = run, state
+        self.run, self.state, self.most = run, state, _limit(run)
         self.deliveries: List[Direction] = []
 
     def deliver(self) -> None:
-        """Delivers until no message waits, or for so many rounds."""
+        """Delivers until no message waits, or until the limit: where routes come and go in turns, ever more wait."""
         order = self.state.outwards()
         for router in order:
             each = self.state.chosen[router]
@@ -71,7 +71,7 @@ class Guide:
                 self._empty((each.source, router))
         for _ in range(ROUNDS):
             waiting = self._waiting()
-            if not waiting:
+            if not waiting or len(self.deliveries) >= self.most:
                 return
             for router in order + sorted({way[1] for way in waiting} - set(order), key=by_address):
                 for way in sorted((way for way in self._waiting() if way[1] == router), key=self._place):
@@ -90,9 +90,15 @@ class Guide:
     def _empty(self, way: Direction) -> None:
         """Delivers all that waits in a direction."""
         count = len(self.run.ask(["queue %s %s" % way])[0]) - 1
+        count = min(count, self.most - len(self.deliveries))
         for _ in range(count):
             self.run.say("deliver %s %s" % way)
         self.deliveries += [way] * count
+
+
+def _limit(run: Run) -> int:
+    """How many deliveries are made at most."""
+    return 2000 + 4 * len(run.network.directions())
 
 
 def reach(lines: List[Line], prefix: str, states: List[State]) -> None:
@@ -113,6 +119,7 @@ def _reach_by_chance(lines: List[Line], prefix: str, states: List[State], seed: 
     """Notes which of the states a random order ends in."""
     with Run(named(RANDOM_ORDER, seed)) as run:
         run.play(lines)
+        run.follow(run.order, _limit(run), False)
         before = len(run.lines)
         if not run.converge().is_converged:
             return
