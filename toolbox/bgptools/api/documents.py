@@ -82,7 +82,8 @@ def stable_states(script: str, found: Found) -> Document:
 def all_stable_states(script: str, found: AllStates) -> Document:
     """All stable states of each prefix, with the routes by which each differs from the others."""
     prefixes = [{"prefix": each.prefix, "cut_off": each.cut_off or None, "candidate_routes": each.candidates,
-                 "states": [_state(each, number) for number in range(1, len(each.states) + 1)]} for each in found.prefixes]
+                 "states": [_state(each, number) for number in range(1, len(each.states) + 1)]}
+                for each in found.prefixes]
     return document("converge", script=script, prefixes=prefixes, names=found.names.of)
 
 

@@ -110,9 +110,10 @@ def _check(chosen: argparse.Namespace) -> None:
     if of_stable and not chosen.stable:
         raise Mistake("--%s is for --stable: add that" % of_stable[0])
     others = ["at_end", "order", "by_router", "seed", "states", "most", "all", "by_prefix"]
-    given = [name for name in others if getattr(chosen, name) not in (None, False)]
+    given = [name.replace("by_router", "router").replace("_", "-") for name in others
+             if getattr(chosen, name) not in (None, False)]
     if chosen.stable and given:
-        raise Mistake("--%s goes not with --stable: leave one of them out" % {"by_router": "router"}.get(given[0], given[0].replace("_", "-")))
+        raise Mistake("--%s goes not with --stable: leave one of them out" % given[0])
     if chosen.json and chosen.state is not None:
         raise Mistake("--json goes not with --state, which writes a script")
 

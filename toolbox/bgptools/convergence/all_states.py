@@ -48,7 +48,7 @@ class PrefixStates:
 
 @dataclass
 class AllStates:
-    """The stable states for each prefix of a script."""
+    """The stable states for each prefix of a script, and how many of its own deliveries were left out."""
     prefixes: List[PrefixStates] = field(default_factory=list)
     names: Names = field(default_factory=Names)
     left_out: int = 0
@@ -61,7 +61,7 @@ def _told(state: State, router: str, prefix: str) -> Optional[Route]:
 
 def undelivered(lines: List[Line]) -> List[Line]:
     """A script without its own deliveries, and without the marks of refusals in lines of their own."""
-    return [line for line in lines if not is_delivery(line.text) and not (not line.is_command and MARK.fullmatch(line.text))]
+    return [line for line in lines if not is_delivery(line.text) and (line.is_command or not MARK.fullmatch(line.text))]
 
 
 def part_of(lines: List[Line], prefix: str) -> List[Line]:
@@ -118,7 +118,8 @@ def find(lines: List[Line], only: Optional[str] = None, bound: Optional[int] = N
         prefixes = sorted(run.network.prefixes, key=by_prefix)
         found.names = run.network.names
     if only is not None and only not in prefixes:
-        raise Mistake("--prefix %s: the script originates and feeds %s" % (only, ", ".join(prefixes[:8]) or "no prefix"))
+        known = ", ".join(prefixes[:8]) or "no prefix"
+        raise Mistake("--prefix %s: the script originates and feeds %s" % (only, known))
     for prefix in prefixes if only is None else [only]:
         found.prefixes.append(_of_prefix(kept, prefix, BOUND if bound is None else bound, progress))
     progress.done()
@@ -128,12 +129,12 @@ def find(lines: List[Line], only: Optional[str] = None, bound: Optional[int] = N
 def script_of(lines: List[Line], found: AllStates, number: int) -> List[str]:
     """The script with the deliveries that reach a state of this number, counted from 1. Mistake where there is none."""
     if len(found.prefixes) != 1:
-        named = ", ".join(each.prefix for each in found.prefixes[:8])
-        raise Mistake("--state %d: --prefix P is expected, to say of which prefix: %s" % (number, named or "there is none"))
+        named = ", ".join(each.prefix for each in found.prefixes[:8]) or "there is none"
+        raise Mistake("--state %d: --prefix P is expected, to say of which prefix: %s" % (number, named))
     of = found.prefixes[0]
     if not 1 <= number <= len(of.states):
-        raise Mistake("--state %d: a number of 1 to %d is expected; %s" % (number, len(of.states), _heading(of)) if of.states
-                      else "--state %d: %s" % (number, _heading(of)))
+        expected = "a number of 1 to %d is expected; " % len(of.states) if of.states else ""
+        raise Mistake("--state %d: %s%s" % (number, expected, _heading(of)))
     state = of.states[number - 1]
     if state.deliveries is None:
         raise Mistake("--state %d: no deliveries were found that reach this state of %s" % (number, of.prefix))

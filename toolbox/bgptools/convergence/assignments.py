@@ -179,7 +179,8 @@ class Search:
         self.routes, self.most = routes, most
 
     def stable(self) -> Iterator[Dict[str, Optional[int]]]:
-        """The stable states: the number of the route that each router chooses, or nothing. CutOff after so many steps."""
+        """The stable states: the number of the route that each router chooses, or nothing. CutOff if they are too many
+        steps away."""
         left, steps = [self.routes.choices], 0
         while left:
             choices = left.pop()
@@ -205,5 +206,6 @@ class Search:
 
     def _undecided(self, choices: Choices) -> Optional[str]:
         """A router with the fewest choices that are more than one."""
-        left = [(len(numbers), by_address(router), router) for router, numbers in choices.of.items() if len(numbers) > 1]
+        left = [(len(numbers), by_address(router), router)
+                for router, numbers in choices.of.items() if len(numbers) > 1]
         return min(left)[2] if left else None

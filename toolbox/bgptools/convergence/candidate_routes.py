@@ -126,7 +126,8 @@ class Prober:
         asked: List[str] = []
         for peer in peers:
             way = (routers[-1], peer)
-            asked += ["start %s %s" % way, "deliver %s %s" % way, "best %s %s" % (peer, self.prefix), "stop %s %s" % way]
+            asked += ["start %s %s" % way, "deliver %s %s" % way]
+            asked += ["best %s %s" % (peer, self.prefix), "stop %s %s" % way]
         replies = self._pour(there + asked + away)[len(there):len(there) + len(asked)]
         found = ((peer, self._candidate(peer, reply)) for peer, reply in zip(peers, replies[2::4]))
         return {peer: candidate for peer, candidate in found if candidate}

@@ -1,8 +1,8 @@
 """Deliveries by which a network reaches a stable state: the program makes them, and is asked where they led.
 
 In the guided order each router first gets the route that it chooses in the state, from the origin outwards. So it
-has chosen that before it hears of others. Then each router takes all that waits for it, by the lowest MED first, so that no
-route stands beside a worse one that the state drops by MED. Where that does not end in the state, random orders may."""
+has chosen that before it hears of others. Then each router takes all that waits for it, the lowest MED first, so that
+no route is there without the one that drops it by MED. Where that does not end in the state, random orders may."""
 from __future__ import annotations
 
 from dataclasses import dataclass, field

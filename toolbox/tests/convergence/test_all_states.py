@@ -45,7 +45,8 @@ class Known(Case):
                 told = inside("converge", path, "--stable", "--json")
                 self.assertEqual(told.returncode, 0 if states else 1)
                 found, = json.loads(told.stdout)["prefixes"]
-                scripts = [inside("converge", path, "--stable", "--state", each["number"]).stdout for each in found["states"]]
+                scripts = [inside("converge", path, "--stable", "--state", each["number"]).stdout
+                           for each in found["states"]]
                 self.assertCountEqual([paths_of(script, list(states[0])) for script in scripts], states)
 
     def test_the_network_of_rfc_3345_has_none(self):
@@ -80,8 +81,8 @@ class Bounds(Case):
         told = tool("converge", path, "--stable", status=0).stdout
         self.assertTrue(told.startswith(PREFIX + ": 8 stable states\n"))
         made = [tool("converge", path, "--stable", "--state", number, status=0).stdout for number in (1, 8)]
-        ends = [program(each + "quiet\n" + "".join("routes %d.%d.0.1\n" % (side, number) for side in (1, 2) for number in range(3)))
-                for each in made]
+        questions = "".join("routes %d.%d.0.1\n" % (side, number) for side in (1, 2) for number in range(3))
+        ends = [program(each + "quiet\n" + questions) for each in made]
         self.assertEqual([end[-13] for end in ends], ["yes", "yes"])
         self.assertNotEqual(*ends)
 
@@ -94,11 +95,12 @@ class Bounds(Case):
                 self.assertEqual(told, "%s: %s, and --bound N allows more" % (PREFIX, said))
 
     def test_options_that_do_not_go_together(self):
-        for words, said in ((["--state", "1"], "--state is for --stable"), (["--stable", "--states", "3"], "--states goes not with --stable"),
+        for words, said in ((["--state", "1"], "--state is for --stable"),
+                            (["--stable", "--states", "3"], "--states goes not with --stable"),
                             (["--stable", "--router"], "--router goes not with --stable"),
                             (["--stable", "--bound", "0"], "--bound 0: a number of at least 1"),
                             (["--stable", "--state", "3"], "--state 3: a number of 1 to 2 is expected"),
                             (["--stable", "--json", "--state", "1"], "--json goes not with --state"),
-                            (["--stable", "--prefix", "10.0.0.0/8"], "--prefix 10.0.0.0/8: the script originates and feeds 203.0.113.0/24")):
+                            (["--stable", "--prefix", "10.0.0.0/8"], "--prefix 10.0.0.0/8: the script originates")):
             with self.subTest(words=words):
                 self.assertIn(said, tool("converge", DISAGREE, *words, status=2).stderr)

@@ -45,8 +45,8 @@ def address(node):
 
 
 def script_of(edges, paths):
-    """The problem as a script: a router an AS. A route carries a community for each permitted path that it took, so that
-    an import rule knows the path, and sets a preference by its rank."""
+    """The problem as a script: a router an AS. A route carries a community for each permitted path that it took, so
+    that an import rule knows the path, and sets a preference by its rank."""
     numbers = {path: at for at, path in enumerate(((node, *path[1:]) for node in NODES for path in paths[node]), 1)}
     numbers[0,] = 0
     lines = ["router %s %d" % (address(node), node or 9) for node in (0, *NODES)]
@@ -84,7 +84,8 @@ def ends_of(script, result, number):
     """What the program says at the end of the script that reaches a state: whether no message waits, and the routes."""
     lines = all_states.script_of(script, all_states.AllStates([result]), number)
     routers = list(result.states[0].chosen)
-    replies = program("".join(line + "\n" for line in lines + ["quiet"] + ["best %s %s" % (each, PREFIX) for each in routers]))
+    lines += ["quiet"] + ["best %s %s" % (each, PREFIX) for each in routers]
+    replies = program("".join(line + "\n" for line in lines))
     return replies[-len(routers) - 1], dict(zip(routers, replies[-len(routers):]))
 
 
@@ -129,9 +130,11 @@ def reflecting_networks(draw):
     feeds = []
     for number, asn in enumerate((6, 6, 7), 1):
         virtual, router = "%d.0.0.%d" % (asn, number), draw(strategies.sampled_from(routers + ["2.0.0.1"]))
-        lines += ["virtual %s %d" % (virtual, asn), "link %s %s 1" % (router, virtual), "join %s %s" % (router, virtual)]
+        way = (virtual, router)
+        lines += ["virtual %s %d" % (virtual, asn), "link %s %s %d" % (*way, draw(strategies.integers(1, 3)))]
+        lines.append("join %s %s" % way)
         if number == 1 or draw(strategies.booleans()):
-            feeds.append("feed %s %s update %s %d,9 igp %d" % (virtual, router, PREFIX, asn, draw(strategies.integers(0, 2))))
+            feeds.append("feed %s %s update %s %d,9 igp %d" % (*way, PREFIX, asn, draw(strategies.integers(0, 2))))
     if draw(strategies.booleans()):
         feeds.append("origin %s %s" % (draw(strategies.sampled_from(routers)), PREFIX))
     return lines, feeds
@@ -173,7 +176,8 @@ class Sources:
                 chosen[router] = next((candidate for source, _, candidate in self.net.routes(router, self.prefix)
                                        if candidate and source == sources[router]), None)
                 for peer in self.net.peers(router):
-                    told = self.net.told(router, peer, self.prefix, chosen[router]) if self.net.up(router, peer) else None
+                    is_up = self.net.up(router, peer)
+                    told = self.net.told(router, peer, self.prefix, chosen[router]) if is_up else None
                     self.net.received.pop((peer, self.prefix, router), None)
                     if told is not None:
                         self.net.received[peer, self.prefix, router] = told
