@@ -75,6 +75,21 @@ class Known(Case):
         self.assertEqual(program(made + "quiet\n")[-1], "yes")
 
 
+    def test_a_state_that_no_order_reaches(self):
+        """AS 1 has a route of its own, and likes that of AS 2 better; AS 2 likes that of AS 1 better than its feed. To
+        end with the feed, AS 2 has to tell of it before it takes the route of AS 1, which waits. When it takes that, it
+        takes its own back, so that AS 1 tells of its own again, and so on: each update brings the next."""
+        given = ("router 1.0.0.1 1\nrouter 2.0.0.1 2\nvirtual 6.0.0.1 6\nlink 1.0.0.1 2.0.0.1 1\nlink 2.0.0.1 6.0.0.1 1\n"
+                 "join 1.0.0.1 2.0.0.1\njoin 2.0.0.1 6.0.0.1\nrule 1.0.0.1 2.0.0.1 in any permit pref=150\n"
+                 "feed 6.0.0.1 2.0.0.1 update 203.0.113.0/24 6,9 igp -\norigin 1.0.0.1 203.0.113.0/24\n").encode()
+        told = tool("converge", "-", "--stable", given=given, status=1).stdout.splitlines()
+        self.assertEqual([line for line in told if not line.startswith(" ")], [
+            PREFIX + ": 2 stable states", "State 1: not reached by the orders that were tried", told[4]])
+        self.assertIn("at 1.0.0.1: from 2.0.0.1, next 2.0.0.1, path 2,6,9, med -, pref 150", told[2])
+        self.assertTrue(told[4].startswith("State 2: reached by "))
+        self.assertIn("--state 1: no deliveries were found", tool("converge", "-", "--stable", "--state", "1", given=given, status=2).stderr)
+
+
 class Bounds(Case):
     def test_states_of_parts_multiply(self):
         path = self.file("pairs.bgp", pairs(3))
