@@ -15,7 +15,7 @@ CALLS = "toolbox/bgptools/api/commands.py"
 CONFIGURATION = "toolbox/bgptools/network/configuration.py"
 SENTENCES = "toolbox/bgptools/network/refusals.py"
 READ = "toolbox/bgptools/program/replies.py"
-EXPLANATION = "toolbox/bgptools/change/explanation.py"
+SELECTION = "toolbox/bgptools/network/selection.py"
 MODEL, RANDOM = "tools/model.py", "tools/simtools/random_scripts.py"
 # What no script can show: memory is refused by nobody's wish.
 UNSHOWN = ("memory",)
@@ -122,7 +122,7 @@ def by_hand(table: Table, top: pathlib.Path) -> Iterator[Place]:
     yield Place(CONFIGURATION, "command", _keys(top / CONFIGURATION, "_TAKES"), list(dict.fromkeys(told)))
     explained = [str(row["number"]) for row in table.rows("refusals") if row["name"] != "syntax"]
     yield Place(SENTENCES, "refusal", _keys(top / SENTENCES, "_SENTENCES"), explained)
-    yield Place(EXPLANATION, "filter", _keys(top / EXPLANATION, "_VALUES"), table.names("filters"))
+    yield Place(SELECTION, "filter", _keys(top / SELECTION, "_VALUES"), table.names("filters"))
     yield Place(READ, "attribute", _fields(top / READ, "Attributes"), table.names("attributes"), has_order=True)
     written = _texts(top / MODEL)
     for what, wants in (("command", names), ("refusal", refusals), ("reason", table.reasons)):

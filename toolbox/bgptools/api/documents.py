@@ -5,6 +5,7 @@ from typing import Any, Dict, List, Optional
 
 from ..change.advertised_routes import Advert, changes
 from ..change.explanation import Explained
+from ..convergence.all_states import AllStates, PrefixStates
 from ..convergence.delivery import Convergence
 from ..convergence.run import told_of, not_converged
 from ..convergence.stable_states import Found
@@ -19,7 +20,8 @@ from .effect import Effect, deliveries_of
 from .reply import reply_of
 from .values import Route, explanation_of, route_of, routes_of
 
-__all__ = ["Document", "advertisement", "effect", "explanations", "line_of", "reply", "stable_states", "tables", "text_of"]
+__all__ = ["Document", "advertisement", "all_stable_states", "effect", "explanations", "line_of", "reply", "stable_states",
+           "tables", "text_of"]
 
 
 def convergence_of(done: Convergence, names: Names) -> Dict[str, Any]:
@@ -75,6 +77,23 @@ def stable_states(script: str, found: Found) -> Document:
                for seed, done in found.endless.items()]
     return document("converge", script=script, orders=found.count, states=states, not_converged=endless,
                     names=found.names.of)
+
+
+def all_stable_states(script: str, found: AllStates) -> Document:
+    """All stable states of each prefix, with the routes by which each differs from the others."""
+    prefixes = [{"prefix": each.prefix, "cut_off": each.cut_off or None, "candidate_routes": each.candidates,
+                 "states": [_state(each, number) for number in range(1, len(each.states) + 1)]}
+                for each in found.prefixes]
+    return document("converge", script=script, prefixes=prefixes, names=found.names.of)
+
+
+def _state(found: PrefixStates, number: int) -> Dict[str, Any]:
+    """A stable state of a prefix, by its number."""
+    state = found.states[number - 1]
+    routes = [{"router": router, "prefix": found.prefix, "route": _route(router, found.route(state, router))}
+              for router in found.differing()]
+    deliveries = None if state.deliveries is None else [list(way) for way in state.deliveries]
+    return {"number": number, "deliveries": deliveries, "routes": routes}
 
 
 def tables(script: str, found: Tables) -> Document:

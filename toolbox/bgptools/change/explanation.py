@@ -2,13 +2,14 @@
 from __future__ import annotations
 
 from dataclasses import dataclass
-from typing import Callable, Dict, List, Optional
+from typing import Dict, List, Optional
 
 from ..convergence.run import Run
 from ..network.configuration import Network
+from ..network.selection import Candidate
 from ..program import communities
-from ..program.language import by_address, neighbour
-from ..program.language_table import BEST, ORIGINS
+from ..program.language import neighbour
+from ..program.language_table import BEST
 from ..program.reasons import FILTER, FILTER_NAMES, reason_text
 from ..program.replies import Attributes, Route, best, reasons, routes
 
@@ -29,7 +30,7 @@ class Explained:
     def value(self, name: str) -> int:
         """What a filter compares, so that less is better."""
         assert self.attributes
-        return _VALUES[name](self, self.attributes)
+        return Candidate(self.source, self.attributes, self.is_external, self.cost, self.ident, self.peer).value(name)
 
     def shown(self, name: str) -> str:
         """The same as it is told."""
@@ -37,18 +38,6 @@ class Explained:
         if name == "med":
             return "%s (missing)" % 0 if self.attributes.med == "-" else self.attributes.med
         return {"pref": self.attributes.pref, "origin": self.attributes.origin, "ident": self.ident, "peer": self.peer}.get(name) or str(self.value(name))
-
-
-_VALUES: Dict[str, Callable[[Explained, Attributes], int]] = {
-    "pref": lambda _, attributes: -int(attributes.pref),
-    "length": lambda _, attributes: attributes.length,
-    "origin": lambda _, attributes: ORIGINS.index(attributes.origin),
-    "med": lambda _, attributes: 0 if attributes.med == "-" else int(attributes.med),
-    "external": lambda each, _: 0 if each.is_external else 1,
-    "cost": lambda each, _: each.cost,
-    "ident": lambda each, _: by_address(each.ident),
-    "clusters": lambda _, attributes: 0 if attributes.clusters == "-" else attributes.clusters.count(",") + 1,
-    "peer": lambda each, _: by_address(each.peer)}
 
 
 def explain(run: Run, router: str, to: str) -> List[Explained]:

@@ -202,6 +202,9 @@ class Json(Case):
     def test_stable_states_and_tables(self):
         found = self.told("converge", DISAGREE, "--states", 6, "--at-end", status=1)
         self.assertEqual(sum(len(state["seeds"]) for state in found["states"]) + len(found["not_converged"]), 6)
+        whole, = self.told("converge", DISAGREE, "--stable")["prefixes"]
+        self.assertEqual([each["route"]["path"] for state in whole["states"] for each in state["routes"]], ["2,3", "3", "3", "1,3"])
+        self.told("converge", LESSONS / "bad-gadget.bgp", "--stable", status=1)
         text = tool("converge", DISAGREE, "--states", 6, "--at-end").stdout
         self.assertIn("%d stable states in 6 random orders" % len(found["states"]), text)
         base = LESSONS / "three-ases.bgp"
@@ -218,7 +221,7 @@ class Json(Case):
 
     def test_mistakes_stand_beside_the_documents(self):
         for name, words, told in (
-                ("converge", (DISAGREE,), "--json is for --states and --by-prefix"),
+                ("converge", (DISAGREE,), "--json is for --stable, --states and --by-prefix"),
                 ("explain", (DISAGREE, "9.9.9.9", "10.0.0.0/8"), "there is no router 9.9.9.9"),
                 ("play", ("nowhere.bgp",), "nowhere.bgp"), ("what-if", (DISAGREE, "nowhere.bgp"), "nowhere.bgp"),
                 ("sweep", (DISAGREE,), "which changes?")):

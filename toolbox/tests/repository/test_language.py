@@ -43,7 +43,7 @@ REPLIES = "crates/reply_text/specs/Replies.antt"
 MODEL, RANDOM = "tools/model.py", "tools/simtools/random_scripts.py"
 PYTHON = "toolbox/bgptools/"
 CALLS, EDITED = PYTHON + "api/commands.py", PYTHON + "network/configuration.py"
-SENTENCES, VALUES = PYTHON + "network/refusals.py", PYTHON + "change/explanation.py"
+SENTENCES, VALUES = PYTHON + "network/refusals.py", PYTHON + "network/selection.py"
 MODULE, SCHEMA, PAGE = language_files.MODULE, language_files.SCHEMA, "docs/reference/language.md"
 ASKED, ANSWERED = {"cases/*.bgp", "examples/tour.bgp"}, {"cases/*.out", "examples/tour.out"}
 
