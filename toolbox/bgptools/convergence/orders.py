@@ -69,11 +69,14 @@ class Drawn(Order):
         self.left = ROUNDS
 
 
-def add_order(parser: argparse.ArgumentParser) -> None:
-    """The words of the command line that say in which order messages are delivered."""
+def add_order(parser: argparse.ArgumentParser, has_word: bool = True) -> None:
+    """The words of the command line that say in which order messages are delivered; `--router` by itself, where that
+    word (`has_word`) says nothing else."""
     parser.add_argument("--order", choices=NAMES, help="fair: each queue that has a message gives one a round (without any of these words); "
                         "router: one router takes all that waits for it, then the next; drawn: by lot for %d rounds, then fair" % ROUNDS)
-    parser.add_argument("--router", dest="by_router", action="store_true", help="the same as --order router")
+    parser.set_defaults(by_router=False)
+    if has_word:
+        parser.add_argument("--router", dest="by_router", action="store_true", help="the same as --order router")
     parser.add_argument("--seed", metavar="N", help="the drawn order of this number; the same number gives the same (1)")
 
 
