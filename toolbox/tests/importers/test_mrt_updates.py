@@ -13,10 +13,11 @@ import pytest
 from hypothesis import given, strategies
 
 from bgptools.importers.tables import bgp_messages
-from common import PATIENCE, Case, inside, program, tool
+from common import DATA, PATIENCE, TOOLBOX, Case, inside, program, tool
 from mrt_files import (
     attribute, attributes, header, message, path, peers, record, routes, state, update, updates)
 from strategies import few
+from test_from_mrt import bytes_of
 
 _kept = signal.getsignal(signal.SIGPIPE)
 mrtparse = pytest.importorskip("mrtparse", reason="mrtparse is not installed (tools/setup)")
@@ -180,6 +181,18 @@ class Beside(Made):
             count = int(replies[-1].split(" ")[1])
             found = {line.split(" ")[0]: line.split("path=")[1].split(" ")[0] for line in replies[-1 - count:-1]}
             self.assertEqual(found, held.get(who, {}))
+
+
+class ByHand(Made):
+    """The updates of toolbox/lessons, whose bytes are spelled in data/mrt/updates.hex."""
+
+    def test_the_lesson(self):
+        lesson = TOOLBOX / "lessons" / "updates.mrt"
+        self.assertEqual(lesson.read_bytes(), bytes_of("updates"))
+        made = inside("from-mrt", lesson, "--table", lesson.with_name("rib.mrt"))
+        self.assertEqual((made.returncode, made.stderr), (0, ""))
+        self.assert_as_file(made.stdout, DATA / "mrt" / "updates.bgp")
+        self.assertEqual(set(program(made.stdout)), {"ok"})
 
 
 class Sessions(Made):
