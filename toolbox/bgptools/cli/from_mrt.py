@@ -33,7 +33,8 @@ def parser() -> argparse.ArgumentParser:
                       "left out")
     made.add_argument("--from", dest="begin", type=times.argument, metavar="TIME", help="replay from this time on "
                       "(ISO 8601, UTC); what peers told before is loaded first")
-    made.add_argument("--until", dest="end", type=times.argument, metavar="TIME", help="replay what was before this time")
+    made.add_argument("--until", dest="end", type=times.argument, metavar="TIME", help="replay what was before this "
+                      "time")
     feeds.add_words(made)
     add_words(made)
     return made

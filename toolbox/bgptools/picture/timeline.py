@@ -57,8 +57,9 @@ def svg_of(found: Timeline) -> str:
     rows = sorted({bar.label for bar in drawn}, key=_by_label)
     begin, length = drawn[0].begin, max(1, drawn[-1].end - drawn[0].begin)
     width, bottom = LEFT + LENGTH + RIGHT, TOP + ROW * len(rows)
+    size = width, bottom + FOOT
     parts = ['<svg xmlns="http://www.w3.org/2000/svg" width="%d" height="%d" viewBox="0 0 %d %d" '
-             'font-family="Helvetica, Arial, sans-serif" font-size="12">' % (width, bottom + FOOT, width, bottom + FOOT),
+             'font-family="Helvetica, Arial, sans-serif" font-size="12">' % (*size, *size),
              '<rect width="100%" height="100%" fill="#ffffff"/>',
              _text(10, 22, "%s at %s: where the chosen route comes from" % (found.prefix, found.router), "start", 14)]
     parts += [_text(LEFT - 8, TOP + ROW * at + 18, label, "end") for at, label in enumerate(rows)]
@@ -78,4 +79,5 @@ def svg_of(found: Timeline) -> str:
 
 
 def _text(x: float, y: float, text: str, anchor: str, size: int = 12) -> str:
-    return '<text x="%d" y="%d" text-anchor="%s" font-size="%d" fill="#1a202c">%s</text>' % (x, y, anchor, size, escape(text))
+    return '<text x="%d" y="%d" text-anchor="%s" font-size="%d" fill="#1a202c">%s</text>' % (
+        x, y, anchor, size, escape(text))

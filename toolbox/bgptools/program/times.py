@@ -1,4 +1,4 @@
-"""Times of a script. A comment `# time 2026-12-01T12:00:00Z` says when what stands behind it happened: ISO 8601, UTC."""
+"""Times of a script. A comment `# time 2026-12-01T12:00:00Z` gives the time of what follows: ISO 8601, UTC."""
 from __future__ import annotations
 
 import argparse

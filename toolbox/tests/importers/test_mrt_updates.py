@@ -271,6 +271,7 @@ class Paths(Made):
         sequence, big = 2, 70000
         self.assertEqual(self.path((sequence, [7, 23456, 9]), whole=[(sequence, [big, 9])]), "7,70000,9")
         self.assertEqual(self.path((sequence, [7, 23456]), whole=[(sequence, [1, 2, big])]), "7,23456")
+        self.assertEqual(self.path((sequence, [7, 23456]), whole=[(sequence, [7, big])]), "7,70000")
         self.assertEqual(self.path((sequence, [7, 8, 23456])), "7,8,23456")
         self.assertEqual(self.path((sequence, [7, 23456]), (1, [8, 23456]), whole=[(sequence, [big]), (1, [8, big])]), "7,70000_{8,70000}")
         self.assertEqual(self.path((sequence, [7, 7, 23456]), whole=[(3, [5]), (sequence, [big])]), "7,7,70000")
@@ -331,6 +332,13 @@ class Times(Made):
         said = self.made(self.CONTENT, "--table", self.folder / "updates.mrt")
         self.assertEqual((said.returncode, said.stdout), (2, ""))
         self.assertIn("updates.mrt: --table: it has no table", said.stderr)
+
+    def test_a_sample_of_all_is_the_whole(self):
+        """What is held for each prefix comes in the order of the file again, with sessions in between."""
+        content = self.CONTENT + withdraws(250, SEVEN, "0.0.0.0/0") + announces(260, EIGHT, "10.0.0.0/8")
+        self.assertEqual(self.body(content, "--sample", 9), self.body(content))
+        self.assertEqual(self.body(content, "--sample", 9, "--from", "2026-12-01T12:02"), self.body(
+            content, "--from", "2026-12-01T12:02"))
 
     def test_several_files(self):
         parts = [self.folder / name for name in ("one", "two")]

@@ -26,7 +26,8 @@ SECOND = 1000000
 
 
 class Header(NamedTuple):
-    """What stands before a message or the states: the peer, the bytes of its AS number, and the time in microseconds."""
+    """What stands before a message or the states: the peer, how many bytes AS numbers have, and the time in
+    microseconds since 1970."""
     peer: Peer
     width: int
     time: int

@@ -82,7 +82,8 @@ class Reading:
         """Why there can be no such peer; nothing where there can, or is."""
         before = self.peers.get(who, asn)
         for is_wrong, said in (
-                (asn == 0, "its peer is of the AS 0"), (asn == self.asn, "the peer is in AS %d, that of the router" % self.asn),
+                (asn == 0, "its peer is of the AS 0"),
+                (asn == self.asn, "the peer is in AS %d, that of the router" % self.asn),
                 (who == self.router, "the peer has the router's address"),
                 (before != asn, "the peer was in AS %d before" % before),
                 (who not in self.peers and len(self.peers) == MOST_PEERS,
@@ -214,8 +215,8 @@ class Reading:
 
     @property
     def most(self) -> int:
-        """How many deliveries at most: if each feed changed the choice, all peers would be sent something each time, but
-        for the first one's."""
+        """How many deliveries at most: if each feed changed the choice, all peers would be sent something each time,
+        but for the first one's."""
         peers, prefixes = len(self.peers), len(self.prefixes)
         return self.count * (1 + peers) - prefixes + prefixes * (self.stops * peers + self.starts)
 
@@ -240,7 +241,8 @@ def reading_for(chosen: argparse.Namespace) -> Reading:
     return Reading(chosen.router, asn)
 
 
-def finish(reading: Reading, chosen_routes: selection.Selection, chosen: argparse.Namespace, path: str, form: str) -> int:
+def finish(reading: Reading, chosen_routes: selection.Selection, chosen: argparse.Namespace, path: str,
+           form: str) -> int:
     """Writes the script but where `--strict` forbids it, after what was left out is told: the exit status.
 
     Raises Mistake where it has no route, or where one run of the program cannot read it with its deliveries."""

@@ -162,7 +162,8 @@ def count_of_routes(content: bytes) -> int:
 
 
 def entry_of(peer: int, content: bytes) -> Entry:
-    """A route of a record, or the attributes of a message. Of an attribute that is there twice the first one counts (RFC 7606)."""
+    """A route of a record, or the attributes of a message. Of an attribute that is there twice the first one counts
+    (RFC 7606)."""
     rest, entry = Bytes(content), Entry(peer)
     try:
         while rest.is_left:

@@ -7,7 +7,7 @@ from __future__ import annotations
 
 import argparse
 import heapq
-from typing import Callable, Dict, Iterator, List, Optional, Set, Tuple, Union
+from typing import Callable, Dict, Iterator, List, Optional, Set, Tuple
 
 from ...program.language import address, contains, number, prefix
 from ...program.mistakes import Mistake
@@ -83,7 +83,7 @@ class Sample:
 class Selection:
     """Which peers and which prefixes are asked for. `count` is how many routes and withdrawals are not."""
 
-    def __init__(self, peers: str = "", under: "Union[List[str], Tuple[str, ...]]" = (), sample: Optional[Sample] = None) -> None:
+    def __init__(self, peers: str, under: List[str], sample: Optional[Sample]) -> None:
         self.words: List[str] = peers.split(",") if peers else []
         self.addresses = {word for word in self.words if address(word) is not None}
         self.numbers: Set[int] = {_number(word) for word in self.words if word not in self.addresses}
@@ -107,7 +107,8 @@ class Selection:
             self.seen[who] = asn
         is_one = who in self.addresses or asn in self.numbers
         if is_one and len(self.met) < len(self.words):
-            self.met.update(word for word in self.words if word == who or word not in self.addresses and _number(word) == asn)
+            self.met.update(word for word in self.words
+                            if word == who or word not in self.addresses and _number(word) == asn)
         self.count += not is_one
         return is_one
 
