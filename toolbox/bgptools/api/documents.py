@@ -5,13 +5,14 @@ from typing import Any, Dict, List, Optional
 
 from ..change.advertised_routes import Advert, changes
 from ..change.explanation import Explained
+from ..change.timeline import Timeline
 from ..convergence.all_states import AllStates, PrefixStates
 from ..convergence.delivery import Convergence
 from ..convergence.run import told_of, not_converged
 from ..convergence.stable_states import Found
 from ..convergence.tables_by_prefix import Tables
 from ..network.configuration import Network
-from ..program import replies
+from ..program import replies, times
 from ..program.documents import Document, document, line_of, plain, text_of
 from ..program.language import readable
 from ..program.names import Names
@@ -21,7 +22,7 @@ from .reply import reply_of
 from .values import Route, explanation_of, route_of, routes_of
 
 __all__ = ["Document", "advertisement", "all_stable_states", "effect", "explanations", "line_of", "reply", "stable_states",
-           "tables", "text_of"]
+           "tables", "text_of", "timeline"]
 
 
 def convergence_of(done: Convergence, names: Names) -> Dict[str, Any]:
@@ -59,6 +60,21 @@ def advertisement(router: str, peer: str, prefix: str, found: Advert, network: N
                     changes=[{"attribute": name, "change": text} for name, text in changed], doubts=found.doubts,
                     waiting=found.is_waiting, names=network.names.of,
                     convergence=done and convergence_of(done, network.names))
+
+
+def timeline(script: str, found: Timeline, network: Network) -> Document:
+    """What a router chose, from which time on."""
+    told = [{"time": _time(each.time), "line": each.line.number, "command": readable(each.line.text),
+             "route": each.route and route_of(found.router, str(each.route.source), each.route),
+             "next_as": each.next_as, "reason": each.reason} for each in found.choices]
+    return document("timeline", script=script, router=found.router, prefix=found.prefix, begin=_time(found.begin),
+                    end=_time(found.end), choices=told, names=network.names.of,
+                    note=not_converged(found.endless, network.names) if found.endless else "",
+                    converged=found.endless is None)
+
+
+def _time(time: Optional[int]) -> Optional[str]:
+    return None if time is None else times.told(time)
 
 
 def effect(base: str, change: str, found: Effect, names: Names) -> Document:

@@ -8,6 +8,7 @@ from ..network.answers import Answers
 from ..network.configuration import Direction, Network, Pair, pair
 from ..program import communities
 from ..program.language import by_address, by_prefix, contains, prefix, show_address, words_of
+from ..program.language_table import BEST
 from ..program.output import Progress
 from ..program.reasons import named
 from ..program.replies import Route, Trace, best, reasons, routes, trace
@@ -116,15 +117,11 @@ def _tell_why(before: Answers, after: Answers, found: Difference) -> None:
              if change.before and change.before.source]
     stopped = _stopped(after.lines[len(before.lines):])
     for (router, change, source), reply in zip(asked, after.ask("why %s %s" % (router, change.prefix) for router, change, _ in asked)):
-        reason = dict(reasons(reply)).get(source)
         shown = after.network.names.shown(source)
-        if reason == "best":
-            change.reason = "it comes from the same, with other attributes"
-        elif reason:
-            change.reason = named(reason, router in after.network.med_always)
-        elif source == "self":
-            change.reason = "it is no longer originated here"
-        elif (router, source) in found.down or (source, router) in found.down:
+        change.reason = reason_now(reply, source, router in after.network.med_always)
+        if change.reason:
+            continue
+        if (router, source) in found.down or (source, router) in found.down:
             change.reason = "the session with %s is down" % shown
         elif pair(router, source) in stopped and not after.network.is_router(source):
             change.reason = "the session with %s was down for a while, and it was not fed again" % shown
@@ -132,6 +129,17 @@ def _tell_why(before: Answers, after: Answers, found: Difference) -> None:
             kept = _kept_back(after, source, router, change.prefix)
             kept = ": it chose a route that carries " + kept if kept else ""
             change.reason = "%s does not tell it any more%s" % (shown, kept)
+
+
+def reason_now(reply: List[str], source: str, is_med_always: bool) -> str:
+    """Why a route that was chosen is not any more, by the reply to `why`; empty where it is not among what the router
+    has: the peer does not tell it then."""
+    reason = dict(reasons(reply)).get(source)
+    if reason == BEST:
+        return "it comes from the same, with other attributes"
+    if reason:
+        return named(reason, is_med_always)
+    return "it is no longer originated here" if source == "self" else ""
 
 
 def _kept_back(run: Answers, router: str, peer: str, to: str) -> str:

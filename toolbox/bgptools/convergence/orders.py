@@ -49,11 +49,14 @@ class RandomOrder(Order):
         return "random %d" % self.seed
 
 
-def add_order(parser: argparse.ArgumentParser) -> None:
-    """The words of the command line that say in which order messages are delivered."""
+def add_order(parser: argparse.ArgumentParser, has_word: bool = True) -> None:
+    """The words of the command line that say in which order messages are delivered; `--router` by itself, where that
+    word (`has_word`) says nothing else."""
     parser.add_argument("--order", choices=NAMES, help="fair: each queue that has a message gives one a round (without any of these words); "
                         "router: one router takes all that waits for it, then the next; random: any queue that has a message, as likely as any other")
-    parser.add_argument("--router", dest="by_router", action="store_true", help="the same as --order router")
+    parser.set_defaults(by_router=False)
+    if has_word:
+        parser.add_argument("--router", dest="by_router", action="store_true", help="the same as --order router")
     parser.add_argument("--seed", metavar="N", help="the random order of this seed; the same seed gives the same (1)")
 
 

@@ -22,11 +22,13 @@ def is_accepted(reply: List[str]) -> bool:
     return bool(reply) and (reply[0] == "ok" or reply[0].startswith("took "))
 
 
-def check_length(count: int, file: Optional[str], advice: str = "") -> None:
-    """Refuses a script of so many lines, where one run of the program cannot read them."""
-    if count > MOST_LINES:
-        told = "a script of {:,} lines; one run of the program reads {:,}{}"
-        raise Mistake(told.format(count, MOST_LINES, advice and "; " + advice), file)
+def check_length(count: int, file: Optional[str], advice: str = "", deliveries: int = 0) -> None:
+    """Refuses a script of so many lines, with at least so many deliveries, where one run of the program cannot read
+    them: Mistake, with an advice on what to write instead."""
+    if count + deliveries > MOST_LINES:
+        told = "a script of {:,} lines{}; one run of the program reads {:,}{}"
+        more = ", and {:,} deliveries at least".format(deliveries) if deliveries else ""
+        raise Mistake(told.format(count, more, MOST_LINES, advice and "; " + advice), file)
 
 
 class CountedProgram(Program):

@@ -1,4 +1,5 @@
 """What tools tell as JSON: it is what docs/reference/schemas says, and what they tell as text."""
+import csv
 import dataclasses
 import json
 import os
@@ -61,7 +62,7 @@ class Json(Case):
         return found
 
     def test_each_schema_is_one_of_a_tool_or_of_values(self):
-        tools = ("explain", "play", "converge", "sweep", "what-if")
+        tools = ("explain", "play", "converge", "sweep", "timeline", "what-if")
         self.assertEqual(set(self.judges), {"language.json", "request.json", "values.json"} | {name + ".json" for name in tools})
 
     def test_a_schema_refuses_what_it_does_not_name(self):
@@ -151,6 +152,19 @@ class Json(Case):
         text = ("path=%(path)s origin=%(origin)s next=%(next_hop)s med=%(med)s pref=%(preference)s oid=%(originator)s "
                 "clusters=%(clusters)s" % shown)
         return text + (" comms=%(communities)s" % shown if route["communities"] else "")
+
+    def test_a_timeline_tells_what_its_csv_does(self):
+        script = self.file("replay.bgp", "# name 1.0.0.1 one\nrouter 1.0.0.1 1\n# time 2026-12-01T12:00:00Z\n"
+                           "origin 1.0.0.1 10.0.0.0/8\n# time 2026-12-01T12:00:00.500000Z\nnoorigin 1.0.0.1 10.0.0.0/8\n")
+        found = self.told("timeline", script, "10.0.0.0/8")
+        rows = list(csv.DictReader(tool("timeline", script, "10.0.0.0/8", "--csv", status=0).stdout.splitlines()))
+        self.assertEqual([(each["time"], str(each["line"]), each["reason"], each["route"] and each["route"]["path"]) for each in found["choices"]],
+                         [(row["time"], row["line"], row["reason"], row["path"] or None) for row in rows])
+        self.assertEqual([(each["command"], each["next_as"], each["route"] and each["route"]["source"]) for each in found["choices"]],
+                         [("origin 1.0.0.1 10.0.0.0/8", None, "self"), ("noorigin 1.0.0.1 10.0.0.0/8", None, None)])
+        self.assertEqual((found["begin"], found["end"], found["names"], found["converged"]),
+                         ("2026-12-01T12:00:00Z", "2026-12-01T12:00:00.500000Z", {"1.0.0.1": "one"}, True))
+        self.assertEqual(found["choices"][1]["reason"], "it is no longer originated here")
 
     def test_a_refusal_is_explained(self):
         found = self.played("-", given=b"router 1.0.0.1 1\n# expect refused 3\nrouter 1.0.0.1 1\nfail 1.0.0.1 2.0.0.1\n"

@@ -72,7 +72,7 @@ class Tables(Dumps):
     def test_the_same_table_as_text(self):
         for name in ("two-peers", "collector"):
             made = inside("from-rib", TABLES / (name + ".txt"))
-            self.assertEqual((made.returncode, made.stdout), (0, (TABLES / (name + ".bgp")).read_text()))
+            self.assertEqual((made.returncode, made.stdout), (NAMES[name], (TABLES / (name + ".bgp")).read_text()))
         self.assertEqual(LESSON.read_bytes(), bytes_of("two-peers"))
 
     @unittest.skipUnless(shutil.which("bgpdump"), "bgpdump is not installed: apt-get install bgpdump")
@@ -111,7 +111,8 @@ class Tables(Dumps):
         path = self.dump(bytes_of("two-peers"))
         with unittest.mock.patch.object(line_count, "MOST_LINES", 8):
             made = inside("from-mrt", path, "-o", self.folder / "out")
-        self.assertIn("a script of 9 lines; one run of the program reads 8; 2 of them are routes", made.stderr)
+        self.assertIn("a script of 9 lines; one run of the program reads 8; 2 of them are routes; `--sample N`, ",
+                      made.stderr)
         self.assertEqual((made.returncode, (self.folder / "out").exists()), (2, False))
 
 
@@ -131,7 +132,7 @@ class Damaged(Dumps):
         for length in range(1, len(content)):
             if length not in starts:
                 begin = max(at for at in starts if at < length)
-                self.assert_wrong(content[:length], "FILE: byte %d: a record of " % begin)
+                self.assert_wrong(content[:length], "FILE: record %d, byte %d: a record of " % (starts.index(begin) + 1, begin))
         self.assert_wrong(content[:180], "byte 122: a record of 175 bytes begins, and the file ends after 58 of them")
         self.assert_wrong(gzip.compress(content)[:-9], "FILE: it cannot be read: Compressed file ended before")
         self.assert_wrong(bz2.compress(content)[:-9], "FILE: it cannot be read: Compressed file ended before")
@@ -140,7 +141,7 @@ class Damaged(Dumps):
         for content, said in ((b"",
                                "FILE: it has no route that can be taken: routes of IPv4 in records of TABLE_DUMP_V2"),
                               (PEER, "it has no route that can be taken"),
-                              (record(16, 4, b"x"), "it has no route that can be taken"),
+                              (record(16, 4, b"x"), "record 1, byte 0: the record is damaged: 1 bytes of 4 are there"),
                               (b"TABLE_DUMP2|1700000000|B|192.0.2.1|7|10.0.0.0/8",
                                "byte 0: a record of 1297101436 bytes begins"),
                               (with_attributes()[len(PEER):],
@@ -179,7 +180,7 @@ class Damaged(Dumps):
                                  ((ORIGIN, PATH, b"\x40"), "an attribute is cut off: 1 bytes of 2 are there"),
                                  ((ORIGIN, PATH, b"\xc0\x08\x84" + bytes(range(132))), "it has 33 communities")):
             with self.subTest(said=said):
-                told = "FILE: byte 33: 10.0.0.0/8 from 192.0.2.1: not taken over: "
+                told = "FILE: record 2, byte 33: 10.0.0.0/8 from 192.0.2.1: not taken over: "
                 self.assert_wrong(with_attributes(*attributes), told)
                 self.assert_wrong(with_attributes(*attributes) + good, said, 1)
 

@@ -156,7 +156,7 @@ class Otherwise(Case):
         begin = beginnings(content)[2]
         *_, last = [(each.mrt.err, each.mrt.err_msg) for each in mrtparse.Reader(io.BytesIO(content[:begin + 58]))]
         self.assertEqual(last[1], "Invalid MRT data length 46 < 163 byte")
-        self.assertIn("rib: byte %d: a record of 175 bytes begins, and the file ends after 58" % begin,
+        self.assertIn("rib: record 3, byte %d: a record of 175 bytes begins, and the file ends after 58" % begin,
                       self.told(content[:begin + 58])[0])
 
     def test_mrtparse_takes_damaged_records_without_a_word(self):
@@ -177,7 +177,7 @@ class Otherwise(Case):
         content = PEER + with_attributes(ORIGIN, PATH)[len(PEER):].replace(b"\x08\x0a\0\1", b"\x28\x0a\0\1\1\1\1")
         content = content[:len(PEER)] + record(13, 2, content[len(PEER) + 12:])
         self.assertRaisesRegex(ValueError, "packed IP address", list, mrtparse.Reader(io.BytesIO(content)))
-        self.assertIn("rib: byte 33: the record is damaged: a prefix of IPv4 has at most 32 bits", self.told(content)[0])
+        self.assertIn("rib: record 2, byte 33: the record is damaged: a prefix of IPv4 has at most 32 bits", self.told(content)[0])
 
     def test_mrtparse_sets_how_the_process_ends(self):
         """`from-mrt FILE | head` ends with 141 and closes what it holds; with mrtparse a signal ends the process."""

@@ -168,20 +168,12 @@ TABLE_DUMP2|1700000000|B|192.0.2.2|8|20.0.0.0/8|9 21|IGP|192.0.2.2|0|0||NAG||
 
 class Rib(Case):
     def test_a_table(self):
-        told = tool("from-rib", self.file("rib", RIB), status=0)
+        told = tool("from-rib", self.file("rib", RIB), status=1)
         self.assertIn("feed 192.0.2.1 10.255.255.1 update 10.0.0.0/8 7,21_{22,23} igp 5 comm=458753\n", told.stdout)
         self.assertIn("feed 192.0.2.2 10.255.255.1 update 10.0.0.0/8 8,21 inc 0\n", told.stdout)
         self.assertIn("rib:4: not taken over: the path does not begin with AS 8", told.stderr)
         self.assertIn("1 routes of IPv6 were left out", told.stderr)
         self.assertFalse([line for line in program(told.stdout) if line != "ok"])
-
-    def test_more_routes_than_one_script_holds(self):
-        path = self.file("rib", RIB)
-        for most, status, said in ((10, 0, ""), (9, 0, "with a delivery for each of its 2 routes it would have more than"), (8, 2, "a script of 9 lines; one run of the program reads 8; 2 of them are routes")):
-            with self.subTest(most=most), mock.patch.object(line_count, "MOST_LINES", most):
-                told = inside("from-rib", path)
-                self.assertEqual((told.returncode, told.stdout == ""), (status, status == 2))
-                self.assertIn(said, told.stderr)
 
     def test_mistakes(self):
         for text, said in (("x\n", ":1: TABLE_DUMP2|time|B|peer"), (RIB.replace("10.0.0.0/8|7", "10.0.0.1/8|7"), ":1: `10.0.0.1/8` is no prefix"),
@@ -243,7 +235,7 @@ class RibCommunities(Case):
         """32 are taken, and 33 words where one stands twice."""
         words = ["7:%d" % number for number in range(33)]
         path = self.table(" ".join(words[:32]), " ".join(words), " ".join(words[:32] + words[:1]))
-        made = tool("from-rib", path, status=0)
+        made = tool("from-rib", path, status=1)
         self.assertEqual(made.stderr, "%s:2: not taken over: it has 33 communities, and a route is fed with 32 at "
                                       "most; --no-communities takes it without\n" % path)
         all_32 = ["comm=" + ",".join(str(7 * 65536 + number) for number in range(32))]

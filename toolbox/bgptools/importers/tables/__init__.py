@@ -1,4 +1,5 @@
-"""Tables of routes as the feeds of one router's peers: MRT (RFC 6396), and the text of `bgpdump -m`.
+"""Tables and updates of collectors as the feeds of one router's peers: MRT (RFC 6396), and the text of `bgpdump -m`.
 
-`feeds` writes the script of the routes that peers sent. `mrt` reads the records of a file and `mrt_feeds` makes feeds
-of them; `bgpdump` does so with lines of text. Called by `from-mrt`, `from-rib` and the importer of C-BGP."""
+`selection` says which routes are taken, `feeds` writes the script of what peers sent, `omissions` tells what is left
+out. `mrt` reads the records of a file, `mrt_feeds` makes feeds of tables, `mrt_updates` replays updates, whose messages
+`bgp_messages` reads; `bgpdump` reads lines of text. Called by `from-mrt`, `from-rib` and the importer of C-BGP."""

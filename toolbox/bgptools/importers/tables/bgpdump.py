@@ -80,14 +80,14 @@ def is_six(text: str) -> bool:
 
 
 def feed_of(text: str, path: str, at: int, reads_communities: bool) -> Optional[Feed]:
-    """A line of the dump, or nothing for one of IPv6."""
+    """A line of the dump, or nothing for one of IPv6. Its peer may have an address of IPv6 all the same."""
     parts = text.split("|")
     if len(parts) < 11 or parts[0] not in DUMPS or parts[2] not in ("B", "R"):
         raise Mistake("%s, and not `%s`" % (FORM, text[:60]), path, at)
-    if is_six(parts[3]) or is_six(parts[5].partition("/")[0]):
+    if is_six(parts[5].partition("/")[0]):
         return None
     asn, found = number(parts[4], 1), path_of(parts[6])
-    for is_wrong, said in ((address(parts[3]) is None, "the peer `%s` is no address" % parts[3]), (asn is None, "`%s` is no AS number" % parts[4]),
+    for is_wrong, said in ((address(parts[3]) is None and not is_six(parts[3]), "the peer `%s` is no address" % parts[3]), (asn is None, "`%s` is no AS number" % parts[4]),
                            (prefix(parts[5]) is None, "`%s` is no prefix" % parts[5]), (found is None, "`%s` is no path" % parts[6][:60]),
                            (parts[7] not in ORIGINS, "the origin `%s` is none of IGP, EGP, INCOMPLETE" % parts[7]),
                            (parts[10] not in ("", "-") and number(parts[10]) is None, "the MED `%s` is no number" % parts[10]),

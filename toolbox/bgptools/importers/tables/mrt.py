@@ -1,6 +1,7 @@
 """Files of MRT (RFC 6396): their records, and the routes of a table dump of version 2 (with RFC 8050).
 
-What is read is checked against its length: a Mistake names the byte of the unpacked file at which the record begins."""
+What is read is checked against its length: a Mistake names the record, and the byte of the unpacked file at which it
+begins."""
 # Not by mrtparse: `test_mrt_libraries` says what that does not do.
 from __future__ import annotations
 
@@ -11,16 +12,19 @@ from typing import BinaryIO, Dict, Iterator, List, NamedTuple, Tuple
 from ...program.mistakes import Mistake
 
 TABLE_DUMP_V2, PEER_INDEX_TABLE = 13, 1
+TABLE_DUMP, BGP4MP, BGP4MP_ET = 12, 16, 17
 # The subtypes of a table dump, and whether routes have a path identifier each (RFC 8050).
 RIB_IPV4_UNICAST = {2: False, 8: True}
 RIB_IPV6_UNICAST = {4: False, 10: True}
 SUBTYPES = {3: "RIB_IPV4_MULTICAST", 5: "RIB_IPV6_MULTICAST", 6: "RIB_GENERIC", 7: "GEO_PEER_TABLE",
             9: "RIB_IPV4_MULTICAST_ADDPATH", 11: "RIB_IPV6_MULTICAST_ADDPATH", 12: "RIB_GENERIC_ADDPATH"}
-TYPES = {11: "OSPFv2", 12: "TABLE_DUMP", TABLE_DUMP_V2: "TABLE_DUMP_V2", 16: "BGP4MP", 17: "BGP4MP_ET", 32: "ISIS",
-         33: "ISIS_ET", 48: "OSPFv3", 49: "OSPFv3_ET"}
+TYPES = {11: "OSPFv2", TABLE_DUMP: "TABLE_DUMP", TABLE_DUMP_V2: "TABLE_DUMP_V2", BGP4MP: "BGP4MP",
+         BGP4MP_ET: "BGP4MP_ET", 32: "ISIS", 33: "ISIS_ET", 48: "OSPFv3", 49: "OSPFv3_ET"}
 # A table of 65535 routes with 1,000 bytes of attributes each.
 MOST_BYTES = 1 << 26
 EXTENDED_LENGTH = 0x10
+# A segment of a path: its type, and its AS numbers.
+Segment = Tuple[int, List[int]]
 
 
 class Short(Exception):
@@ -28,11 +32,19 @@ class Short(Exception):
 
 
 class Record(NamedTuple):
-    """A record: where it begins in the unpacked file, its type and subtype, and what it holds."""
+    """A record: where it begins in the unpacked file, its type and subtype, what it holds, its number, from 1 on, and
+    its time in seconds since 1970."""
     at: int
     kind: int
     subtype: int
     content: bytes
+    number: int = 0
+    seconds: int = 0
+
+    @property
+    def place(self) -> str:
+        """Where it is in the file."""
+        return "record %d, byte %d" % (self.number, self.at)
 
     @property
     def name(self) -> str:
@@ -89,21 +101,23 @@ class Entry:
 def records_in(file: BinaryIO, name: str) -> Iterator[Record]:
     """The records of an unpacked file; raises Mistake where it ends within one, or where one is longer than any
     table's."""
-    at = 0
+    at, count = 0, 0
     while True:
         head = file.read(12)
         if not head:
             return
-        kind, subtype, length = struct.unpack(">4xHHI", head) if len(head) == 12 else (0, 0, 0)
+        count += 1
+        seconds, kind, subtype, length = struct.unpack(">IHHI", head) if len(head) == 12 else (0, 0, 0, 0)
         content = file.read(length) if length <= MOST_BYTES else b""
+        found = Record(at, kind, subtype, content, count, seconds)
         if length > MOST_BYTES:
-            raise Mistake("byte %d: a record of %d bytes begins, and no table has one of more than %d; it is no MRT "
-                          "file, or damaged" % (at, length, MOST_BYTES), name)
+            raise Mistake("%s: a record of %d bytes begins, and no table has one of more than %d; it is no MRT "
+                          "file, or damaged" % (found.place, length, MOST_BYTES), name)
         if len(head) < 12 or len(content) < length:
-            raise Mistake("byte %d: a record of %s begins, and the file ends after %d of them" % (
-                at, "%d bytes" % (12 + length) if len(head) == 12 else "12 bytes or more",
+            raise Mistake("%s: a record of %s begins, and the file ends after %d of them" % (
+                found.place, "%d bytes" % (12 + length) if len(head) == 12 else "12 bytes or more",
                 len(head) + len(content)), name)
-        yield Record(at, kind, subtype, content)
+        yield found
         at += 12 + length
 
 
@@ -133,7 +147,7 @@ def routes_of(content: bytes, has_identifiers: bool) -> "Tuple[Tuple[int, int], 
     for _ in range(rest.number(2)):
         peer = rest.number(2)
         rest.take(8 if has_identifiers else 4)
-        entries.append(_entry(peer, rest.take(rest.number(2))))
+        entries.append(entry_of(peer, rest.take(rest.number(2))))
     rest.end()
     # Bits behind the length are of no meaning (RFC 4271, 4.3).
     return (value >> (32 - length) << (32 - length), length), entries
@@ -147,8 +161,9 @@ def count_of_routes(content: bytes) -> int:
     return rest.number(2)
 
 
-def _entry(peer: int, content: bytes) -> Entry:
-    """A route of a record. Of an attribute that is there twice the first one counts (RFC 7606)."""
+def entry_of(peer: int, content: bytes) -> Entry:
+    """A route of a record, or the attributes of a message. Of an attribute that is there twice the first one counts
+    (RFC 7606)."""
     rest, entry = Bytes(content), Entry(peer)
     try:
         while rest.is_left:
@@ -159,13 +174,14 @@ def _entry(peer: int, content: bytes) -> Entry:
     return entry
 
 
-def segments_of(content: bytes) -> List[Tuple[int, List[int]]]:
-    """The segments of an AS_PATH with AS numbers of 4 bytes, each with its type; raises Short."""
+def segments_of(content: bytes, width: int = 4) -> List[Segment]:
+    """The segments of an AS_PATH with AS numbers of so many bytes, 4 or 2, each with its type; raises Short."""
     rest = Bytes(content)
     segments = []
     while rest.is_left:
         kind = rest.number(1)
-        numbers = numbers_of(rest.take(4 * rest.number(1)))
+        count = rest.number(1)
+        numbers = list(struct.unpack(">%d%s" % (count, "I" if width == 4 else "H"), rest.take(width * count)))
         segments.append((kind, numbers))
     return segments
 
