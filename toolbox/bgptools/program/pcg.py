@@ -41,6 +41,21 @@ class Pcg32:
             if product & HALF >= rejected:
                 return product >> 32
 
+    def several_below(self, count: int, many: int) -> List[int]:
+        """So many numbers of `below`, in one loop."""
+        if not 1 <= count <= HALF + 1:
+            raise ValueError("below %d: 1 to 4294967296 is expected" % count)
+        rejected, increment, old = (HALF + 1) % count, self.increment, self.state
+        found: List[int] = []
+        while len(found) < many:
+            shifted, turn = (old >> 18 ^ old) >> 27 & HALF, old >> 59
+            product = ((shifted >> turn | shifted << (32 - turn)) & HALF) * count
+            old = (old * MULTIPLIER + increment) & WORD
+            if product & HALF >= rejected:
+                found.append(product >> 32)
+        self.state = old
+        return found
+
     def sample(self, items: Sequence[Item], count: int) -> List[Item]:
         """So many of the items, in random order (R. Durstenfeld's shuffle from the front, ended there). More of the same
         generator begin with the same items."""
