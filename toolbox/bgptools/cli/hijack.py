@@ -101,7 +101,7 @@ def main(words: Optional[List[str]] = None) -> int:
     _check(chosen)
     study = _study(chosen)
     program = provenance.of(location.program())
-    known = Results(chosen.results, study.about(), chosen.resume, program)
+    known = Results(chosen.results, study, chosen.resume, program)
     try:
         play_here(study, known, chosen.jobs or processors())
     finally:

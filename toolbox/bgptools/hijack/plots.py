@@ -3,6 +3,7 @@ from __future__ import annotations
 
 from typing import Dict, List, Sequence, Tuple
 
+from ..change.report import count
 from .statistics import Share
 
 WIDTH, HEIGHT = 640, 300
@@ -67,6 +68,6 @@ def tier_plot(tiers: Dict[str, Share], counts: Dict[str, int]) -> str:
         parts += ['<rect x="%.1f" y="%d" width="%.1f" height="%d" fill="#bee3f8"/>' % (
             across(0), top, across(share.mean) - across(0), BAR - 12),
             _line(across(share.low), middle, across(share.high), middle, 'stroke="#1a202c" stroke-width="2"'),
-            _text(across(0) - 8, middle + 4, "end", tier), _text(across(1), middle + 4, "end", "%d pairs" % counts[tier])]
+            _text(across(0) - 8, middle + 4, "end", tier), _text(across(1), middle + 4, "end", count(counts[tier], "pair"))]
     parts.append(_text(across(0.5), bottom + 38, "middle", "captured ASes of all others, by packets: mean and 95 % interval"))
     return _svg(bottom + BOTTOM, "Captured ASes by the tier of the attacker", parts)

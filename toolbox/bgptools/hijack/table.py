@@ -5,6 +5,7 @@ import csv
 import io
 from typing import Any, Dict, List, NamedTuple, Sequence
 
+from ..change.report import count
 from ..program import documents
 from ..program.provenance import Provenance
 from .deployment import TIERS, Deployment, tier_of
@@ -60,10 +61,10 @@ class Table:
         """What was studied."""
         study = self.study
         drawn = "" if study.seed is None else ", drawn by seed %d" % study.seed
-        lines = ["Hijacks of kind %s in %s: %d pairs%s, %d ASes" % (
-            study.kind, study.path, len(self.rows), drawn, len(study.known.customers))]
+        lines = ["Hijacks of kind %s in %s: %s%s, %d ASes" % (
+            study.kind, study.path, count(len(self.rows), "pair"), drawn, len(study.known.customers))]
         for option, found in (("--rov", study.rov), ("--peerlock", study.peerlock)):
-            lines += ["%s %s: %d ASes filter" % (option, found.words, len(found.asns))] if found.words else []
+            lines += ["%s %s: %s" % (option, found.words, count(len(found.asns), "AS", "ASes"))] if found.words else []
         return lines
 
 
@@ -86,7 +87,7 @@ def text_of(table: Table) -> str:
         lines.append("  %-14s%-26s%s" % (name, *cells))
     lines += ["", "Captured by packets, by the attacker's tier"]
     for tier, share in table.by_tier.items():
-        lines.append("  %-14s%-26s%d pairs" % (tier, interval(share), len(table.tiers()[tier])))
+        lines.append("  %-14s%-26s%s" % (tier, interval(share), count(len(table.tiers()[tier]), "pair")))
     lines += ["", "%10s %10s  %-8s %9s %9s %12s  %s" % ("victim", "attacker", "tier", *NUMBERS, "captured by routes")]
     for row in table.rows[:SHOWN]:
         found = row.outcome

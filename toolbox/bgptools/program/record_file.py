@@ -15,12 +15,13 @@ class RecordFile:
     """Results that are kept in a file, or in none where `path` is None.
 
     Its first line says of what it is, by the word `what`, as `sweep`, by `about`, a digest, and which program played it.
-    `read` is called with each further line. Mistake where the file is of something else, which `others` describes, or
-    of another program, or is there and not to be gone on with."""
+    `more` stands there for a reader. `read` is called with each further line. Mistake where the file is of something
+    else, which `others` describes, or of another program, or is there and not to be gone on with."""
 
-    def __init__(self, path: Optional[str], what: str, others: str, about: str, is_resumed: bool, program: Provenance) -> None:
+    def __init__(self, path: Optional[str], what: str, others: str, about: str, is_resumed: bool, program: Provenance,
+                 more: Optional[Dict[str, Any]] = None) -> None:
         self.path, self.what, self.others = path, what, others
-        self.head: Dict[str, Any] = {what: 1, "about": about, "program": program.as_json()}
+        self.head: Dict[str, Any] = {what: 1, "about": about, "program": program.as_json(), **(more or {})}
         self.file = -1 if path is None else self._opened(path, is_resumed)
         if self.file >= 0:
             self._begin()
