@@ -57,7 +57,7 @@ def _all() -> Iterator[Input]:
     yield _file("from-graph", graphs / "europe.graphml", "--speed", "--reflectors", "2")
     yield _file("from-graph", graphs / "weights.gml", "--cost", "weight")
     yield _file("from-graph", LESSONS / "ring.gml")
-    for words in ((), ("--communities", "--origins", "all")):
+    for words in ((), ("--communities", "--origins", "all"), ("--about", "3,4", "--observers", "1")):
         yield _file("from-as-rel", LESSONS / "relationships.txt", *words)
     for path in (LESSONS / "rib.txt", DATA / "mrt" / "collector.txt", DATA / "mrt" / "two-peers.txt"):
         yield _file("from-rib", path)

@@ -67,7 +67,7 @@ def _check_words(chosen: argparse.Namespace) -> None:
 
 
 def _network(graph: Graph, leaks: List[int], chosen: argparse.Namespace) -> int:
-    """The whole graph, or its core, as far as a network has room."""
+    """The whole graph, or its core, as far as it fits into a network."""
     part = cuts.within_limits(cuts.core(graph.known, chosen.core), graph.name)
     loop = provider_loop(part)
     if loop:

@@ -5,6 +5,7 @@ import random
 from unittest import mock
 
 from common import Case, inside, program, tool
+from relations import fixpoint
 
 from bgptools.convergence.run import Run
 from bgptools.program import line_count
@@ -36,25 +37,6 @@ def is_valley_free(path, kinds):
                 return False
             went_down = True
     return True
-
-
-def fixpoint(kinds, origins):
-    """The path that each AS chooses where these originate one prefix, by the rules of Gao and Rexford.
-
-    An AS prefers routes of customers to those of peers, these to those of providers, then shorter paths, then the neighbour of the lower
-    number. It tells customers all, others only its own routes and those of customers. Decided again and again until nothing changes."""
-    ways = [way for (one, other), kind in kinds.items() for way in ((one, other, 2 if kind else 1), (other, one, 0 if kind else 1))]
-    rank = {(here, to): kind for to, here, kind in ways}
-    chosen, before = {asn: () for asn in origins}, None
-    while chosen != before:
-        before, offers = chosen, {asn: [(-1, 0, 0, ())] for asn in origins}
-        for to, here, kind in ways:
-            path = before.get(to)
-            is_told = path is not None and here not in path and (kind == 2 or not path or rank[to, path[0]] == 0)
-            if is_told:
-                offers.setdefault(here, []).append((kind, len(path) + 1, to, (to,) + path))
-        chosen = {asn: min(found)[3] for asn, found in offers.items()}
-    return chosen
 
 
 class Hijacks(Case):
@@ -138,7 +120,7 @@ class Relationships(Case):
             with mock.patch.object(line_count, "MOST_LINES", most):
                 told = inside("from-as-rel", path, "--origins", "all")
             self.assertEqual(told.returncode, status)
-        self.assertEqual((told.stdout, told.stderr), ("", "%s: a script of %d lines; one run of the program reads %d; --core N keeps fewer ASes\n" % (path, lines, lines - 1)))
+        self.assertEqual((told.stdout, told.stderr), ("", "%s: a script of %d lines; one run of the program reads %d; --about ORIGINS or --core N keeps fewer ASes\n" % (path, lines, lines - 1)))
 
     def test_a_thousand_ases_converge_without_a_valley(self):
         text = relationships(1000, 3)
@@ -160,15 +142,6 @@ class Relationships(Case):
                 path = line.split("path=")[1].split(" ")[0]
                 whole = [asn] + ([] if path == "-" else [int(each) for each in path.split(",")])
                 self.assertTrue(is_valley_free(whole[::-1], kinds), line)
-
-    def test_core_and_limits(self):
-        big = "".join("1|%d|-1\n" % asn for asn in range(2, 400)) + "2|3|0\n"
-        told = tool("from-as-rel", "-", given=big.encode(), status=0)
-        self.assertIn("left out: an AS has at most 256 sessions", told.stderr)
-        self.assertEqual(told.stdout.count("\njoin "), 257)
-        self.assertFalse([line for line in program(told.stdout) if line != "ok"])
-        self.assertEqual(tool("from-as-rel", "--core", "3", "-", given=big.encode(), status=0).stdout.count("router "), 3)
-        self.assertIn("--core 4096", tool("from-as-rel", "-", given="".join("1|%d|-1\n" % asn for asn in range(2, 5000)).encode(), status=2).stderr)
 
     def test_a_packed_file(self):
         path = self.folder / "rel.txt.gz"

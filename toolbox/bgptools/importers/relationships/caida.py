@@ -36,8 +36,8 @@ class Relations:
         one, other, kind = tie
         self.ties.append(tie)
         for asn in (one, other):
-            for table in (self.customers, self.providers, self.peers):
-                table.setdefault(asn, set())
+            if asn not in self.customers:
+                self.customers[asn], self.providers[asn], self.peers[asn] = set(), set(), set()
         if kind == -1:
             self.customers[one].add(other)
             self.providers[other].add(one)

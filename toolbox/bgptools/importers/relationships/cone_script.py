@@ -1,4 +1,5 @@
-"""The script of a cone: which graph it stands for, that it fits into a network, and its comparison with a larger one."""
+"""The script of a cone: which graph it stands for, whether it fits into a network, and its comparison with a larger
+one."""
 from __future__ import annotations
 
 import hashlib
@@ -39,7 +40,7 @@ class Graph(NamedTuple):
 
 
 def cone_of(graph: Graph, interest: Interest) -> Relations:
-    """The cone; raises Mistake where providers are a loop, and where a network has no room for it."""
+    """The cone; raises Mistake where providers are a loop, and where it does not fit into a network."""
     try:
         found = cone(graph.known, interest.sources, interest.observers)
     except Mistake as mistake:
@@ -52,7 +53,7 @@ def cone_of(graph: Graph, interest: Interest) -> Relations:
 
 
 def too_large(known: Relations) -> str:
-    """Why a network has no room for a graph; empty where it has."""
+    """Why a graph does not fit into a network; empty where it does."""
     if len(known.customers) > MOST_ROUTERS:
         return "%d ASes, and a network has at most %d" % (len(known.customers), MOST_ROUTERS)
     crowded = [asn for asn in known.asns() if known.degree(asn) > MOST_SESSIONS]
@@ -88,9 +89,9 @@ class Difference(NamedTuple):
 
 
 def larger_than(graph: Graph, interest: Interest, part: Relations, kind: Type[Writer], seed: int) -> Relations:
-    """What a cone is compared with: the whole graph where a network has room for it, else a cone of more observers.
+    """What a cone is compared with: the whole graph where it fits into a network, else a cone of more observers.
 
-    These are the first ones by the SHA-256 of the seed and their number. Raises Mistake where no larger one has room."""
+    These are the first ones by the SHA-256 of the seed and their number. Raises Mistake where no larger one fits."""
     if _fits(graph, interest, graph.known, kind):
         return graph.known
     extra = sorted(set(graph.known.customers) - set(part.customers), key=lambda asn: (_lot(seed, asn), asn))
@@ -100,7 +101,7 @@ def larger_than(graph: Graph, interest: Interest, part: Relations, kind: Type[Wr
         if _fits(graph, interest, found, kind):
             return found
         count //= 2
-    raise Mistake("--check: a network has no room for a larger cone; name fewer observers", graph.name)
+    raise Mistake("--check: no larger cone fits into a network; name fewer observers", graph.name)
 
 
 def _lot(seed: int, asn: int) -> bytes:

@@ -46,8 +46,8 @@ def _with(whole: Relations, ties: List[Tie]) -> Relations:
 
 
 class Cut(NamedTuple):
-    """What a part of a graph lacks: so many ASes and relationships, of these so many of which both ends are kept; and
-    which of the ASes that are kept lose a provider, and which all of theirs, ascending."""
+    """What a part of a graph lacks: the ASes, the relationships, and of these those of which both ends are kept, by their
+    numbers; and which of the ASes that are kept lose a provider, and which all of theirs, ascending."""
     ases: int
     relationships: int
     between: int
@@ -78,8 +78,12 @@ def told(lost: Cut, names_all: bool = False) -> List[str]:
         return []
     what = "%d ASes and %d relationships" % (lost.ases, lost.relationships)
     if not lost.changes_routes:
-        return ["note: %s are left out, and decide no route of the others" % what]
-    lines = ["not taken over: %s; routes can differ from those of the whole graph, which --about ORIGINS keeps" % what]
+        return ["note: %s are left out, which decide no route of the other ASes" % what]
+    if lost.between:
+        what = "%s, %d of them" % (what, lost.between) if lost.ases else "%d relationships," % lost.between
+        what += " since an AS has at most %d sessions" % MOST_SESSIONS
+    lines = ["not taken over: %s; routes can differ from those of the whole graph, and --about ORIGINS writes a part "
+             "in which they do not" % what]
     if lost.orphans:
         shown = lost.orphans if names_all else lost.orphans[:SHOWN]
         left = len(lost.orphans) - len(shown)
