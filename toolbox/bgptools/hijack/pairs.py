@@ -2,7 +2,7 @@
 from __future__ import annotations
 
 import re
-from typing import Dict, List, NamedTuple
+from typing import Dict, List, NamedTuple, Optional
 
 from ..importers.common.sources import lines_in
 from ..importers.relationships.caida import Relations
@@ -54,7 +54,7 @@ def pairs_in(path: str, known: Relations, kind: str) -> List[Pair]:
     return list(found)
 
 
-def _fault(pair: Pair, known: Relations, kind: str) -> "str | None":
+def _fault(pair: Pair, known: Relations, kind: str) -> Optional[str]:
     """Why a pair cannot be played."""
     for asn in pair:
         if asn not in known.customers:
