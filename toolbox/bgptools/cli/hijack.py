@@ -35,9 +35,11 @@ def parser() -> argparse.ArgumentParser:
         "same: the attacker originates the prefix, too; longer: a longer prefix inside it; forged: it advertises the "
         "prefix as if the victim were its neighbour; leak: it advertises a provider's or peer's route to all"))
     group = made.add_argument_group("pairs, by one of")
-    group.add_argument("--pairs", metavar="PAIRS", help="a file with a line VICTIM ATTACKER, or VICTIM,ATTACKER, for each")
+    group.add_argument("--pairs", metavar="PAIRS", help=(
+        "a file with a line VICTIM ATTACKER, or VICTIM,ATTACKER, for each"))
     group.add_argument("--count", type=int, metavar="N", help="so many different pairs, drawn")
-    group.add_argument("--seed", type=int, metavar="S", help="what --count draws by: the same seed, the same pairs (1)")
+    group.add_argument("--seed", type=int, metavar="S", help=(
+        "what --count draws by: the same seed, the same pairs (1)"))
     group = made.add_argument_group("filters, of which an AS may have both")
     group.add_argument("--rov", metavar="ASES", default="", help=(
         "these ASes validate origins: " + DEPLOYED))
@@ -85,14 +87,15 @@ def _study(chosen: argparse.Namespace) -> Study:
     known = relations(chosen.file, chosen.most_unpacked, digest)
     loop = provider_loop(known)
     if loop:
-        raise Mistake("AS %s, each a provider of the next one, are a loop, and more than one outcome may exist: write who "
-                      "of two is the provider the other way, or 0 for peers" % " > ".join(map(str, loop + loop[:1])),
-                      named(chosen.file))
+        raise Mistake("AS %s, each a provider of the next one, are a loop, and more than one outcome may exist: write "
+                      "who of two is the provider the other way, or 0 for peers" % " > ".join(
+                          map(str, loop + loop[:1])), named(chosen.file))
     seed = None if chosen.count is None else 1 if chosen.seed is None else chosen.seed
     pairs = pairs_in(chosen.pairs, known, chosen.kind) if seed is None else \
         drawn_pairs(known, chosen.count, seed, chosen.kind)
     rov, peerlock = (deployment_of(known, "--" + name, getattr(chosen, name)) for name in ("rov", "peerlock"))
-    return Study(named(chosen.file), digest.hexdigest(), known, chosen.kind, pairs, seed, rov, peerlock, chosen.played == "all")
+    return Study(named(chosen.file), digest.hexdigest(), known, chosen.kind, pairs, seed, rov, peerlock,
+                 chosen.played == "all")
 
 
 def main(words: Optional[List[str]] = None) -> int:

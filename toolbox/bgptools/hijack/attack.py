@@ -3,7 +3,7 @@ from __future__ import annotations
 
 from typing import List
 
-# The victim's prefix, its two halves, and the router that an attacker pretends to hear it from. No AS has such addresses.
+# The victim's prefix, its two halves, and the router that an attacker pretends to hear it from: addresses of no AS.
 PREFIX, HALVES = "203.0.113.0/24", ("203.0.113.0/25", "203.0.113.128/25")
 PRETENDED = "192.0.2.1"
 SAME, LONGER, FORGED, LEAK = KINDS = ("same", "longer", "forged", "leak")

@@ -38,7 +38,8 @@ def deployment_of(known: Relations, option: str, words: str) -> Deployment:
     """The ASes that an option names; raises Mistake for other words, and for an AS that is not in the graph."""
     if not words:
         return Deployment()
-    top, share = re.fullmatch(r"top:([1-9][0-9]{0,5})", words), re.fullmatch(r"share:([01](?:\.[0-9]{1,9})?):([0-9]+)", words)
+    top = re.fullmatch(r"top:([1-9][0-9]{0,5})", words)
+    share = re.fullmatch(r"share:([01](?:\.[0-9]{1,9})?):([0-9]+)", words)
     if top:
         return Deployment(words, frozenset(by_degree(known)[:int(top.group(1))]))
     if share and Decimal(share.group(1)) <= 1 and number(share.group(2)) is not None:

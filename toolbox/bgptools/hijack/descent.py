@@ -1,9 +1,9 @@
 """What the ASes below those that were played choose: the program's decision, for tens of thousands of ASes.
 
-All ASes above the origins were played. So no other AS gets the route from a customer, and its peers and providers decide
-what it chooses: peers before providers, then the shorter path, then the lower number
-(`importers.relationships.stub_decision` says why that is the program's decision). Here a route is one number, its length
-and who advertises it; an AS gets the label of the neighbour from which it has its route, and may refuse some labels."""
+All ASes above the origins were played. So no other AS gets the route from a customer, and its peers and providers
+decide what it chooses: peers before providers, then the shorter path, then the lower number. That is the program's
+decision, as `importers.relationships.stub_decision` says. Here a route is one number, its length and who advertises it;
+an AS gets the label of the neighbour from which it has its route, and may refuse some labels."""
 from __future__ import annotations
 
 from typing import Dict, FrozenSet, Iterable, List, NamedTuple, Sequence, Set

@@ -11,6 +11,7 @@ from .plots import distribution_plot, tier_plot
 from .statistics import distribution
 from .table import NUMBERS, PLANES, Row, Table, interval
 
+OF_A_LEAK = "In a leak, captured is who passes the attacker and would not without the leak."
 COLUMNS = ("victim", "attacker", "tier", *NUMBERS, *("%s by routes" % name for name in NUMBERS))
 
 
@@ -22,7 +23,7 @@ def page_of(table: Table) -> str:
              for plane, name in zip(PLANES, ("packets", "routes"))]
     values: Dict[str, str] = {
         "TITLE": shown("Hijacks in " + table.study.path), "SUMMARY": shown("\n".join(table.heading() + means)),
-        "LEAK": "In a leak, captured is who passes the attacker and would not without the leak." if table.study.kind == LEAK else "",
+        "LEAK": OF_A_LEAK if table.study.kind == LEAK else "",
         "DISTRIBUTION": distribution_plot([distribution(table.shares(plane, table.rows)) for plane in PLANES]),
         "TIERS": tier_plot(table.by_tier, counts),
         "HEAD": "".join("<th>%s</th>" % name for name in COLUMNS),

@@ -35,7 +35,8 @@ def pairs_in(path: str, known: Relations, kind: str) -> List[Pair]:
     found: Dict[Pair, int] = {}
     for at, text in lines_in(path):
         words = re.split(r"[ \t]*,[ \t]*|[ \t]+", text.strip())
-        if words == [""] or words[0].startswith("#") or not found and [word.lower() for word in words] == ["victim", "attacker"]:
+        is_head = not found and [word.lower() for word in words] == ["victim", "attacker"]
+        if is_head or words == [""] or words[0].startswith("#"):
             continue
         asns = [number(word, 1) for word in words]
         if len(asns) != 2 or asns[0] is None or asns[1] is None:

@@ -1,4 +1,4 @@
-"""Plays the hijack of a pair in the program, on the part of the graph that decides it, and reads what each AS chose."""
+"""Plays the hijack of a pair in the program, on the part of the graph that decides it, and reads who chose what."""
 from __future__ import annotations
 
 import re
@@ -51,9 +51,9 @@ def part_of(known: Relations, pair: Pair, is_all: bool) -> Relations:
             *pair, len(found.customers), MOST_ROUTERS, ": leave --played all out" if is_all else ""))
     for asn in found.asns():
         if found.degree(asn) + (asn == pair.attacker) > MOST_SESSIONS:
-            raise Mistake("pair %d %d: AS %d has %d neighbours among the %d ASes that are to be played, and a router has "
-                          "at most %d sessions%s" % (*pair, asn, found.degree(asn), len(found.customers), MOST_SESSIONS,
-                                                     ": leave --played all out" if is_all else ""))
+            raise Mistake("pair %d %d: AS %d has %d neighbours among the %d ASes that are to be played, and a router "
+                          "has at most %d sessions%s" % (*pair, asn, found.degree(asn), len(found.customers),
+                                                         MOST_SESSIONS, ": leave --played all out" if is_all else ""))
     return found
 
 

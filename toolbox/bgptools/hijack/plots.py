@@ -11,6 +11,7 @@ LEFT, TOP, RIGHT, BOTTOM = 60, 16, 16, 44
 # By packets, by routes: told apart by dashes, too.
 STYLES = (("packets", 'stroke="#2b6cb0"'), ("routes", 'stroke="#c53030" stroke-dasharray="6 4"'))
 BAR = 34
+ACROSS = "captured ASes of all others"
 
 
 def across(share: float) -> float:
@@ -50,10 +51,11 @@ def distribution_plot(steps: Sequence[List[Tuple[float, float]]]) -> str:
             points += [(share, last), (share, part)]
             last = part
         path = " ".join("%.1f,%.1f" % (across(x), _up(y)) for x, y in points + [(1.0, 1.0)])
+        key = _up(0.22 - 0.1 * number)
         parts += ['<polyline points="%s" fill="none" stroke-width="2" %s/>' % (path, style),
-                  _line(across(0.72), _up(0.22 - 0.1 * number), across(0.79), _up(0.22 - 0.1 * number), 'stroke-width="2" ' + style),
-                  _text(across(0.8), _up(0.22 - 0.1 * number) + 4, "start", "by " + name)]
-    parts.append(_text(across(0.5), HEIGHT - 6, "middle", "captured ASes of all others; up: pairs with at most so many"))
+                  _line(across(0.72), key, across(0.79), key, 'stroke-width="2" ' + style),
+                  _text(across(0.8), key + 4, "start", "by " + name)]
+    parts.append(_text(across(0.5), HEIGHT - 6, "middle", ACROSS + "; up: pairs with at most so many"))
     return _svg(HEIGHT, "Cumulative distribution of captured ASes", parts)
 
 
@@ -68,6 +70,7 @@ def tier_plot(tiers: Dict[str, Share], counts: Dict[str, int]) -> str:
         parts += ['<rect x="%.1f" y="%d" width="%.1f" height="%d" fill="#bee3f8"/>' % (
             across(0), top, across(share.mean) - across(0), BAR - 12),
             _line(across(share.low), middle, across(share.high), middle, 'stroke="#1a202c" stroke-width="2"'),
-            _text(across(0) - 8, middle + 4, "end", tier), _text(across(1), middle + 4, "end", count(counts[tier], "pair"))]
-    parts.append(_text(across(0.5), bottom + 38, "middle", "captured ASes of all others, by packets: mean and 95 % interval"))
+            _text(across(0) - 8, middle + 4, "end", tier),
+            _text(across(1), middle + 4, "end", count(counts[tier], "pair"))]
+    parts.append(_text(across(0.5), bottom + 38, "middle", ACROSS + ", by packets: mean and 95 % interval"))
     return _svg(bottom + BOTTOM, "Captured ASes by the tier of the attacker", parts)

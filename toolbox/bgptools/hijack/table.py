@@ -38,7 +38,8 @@ class Table:
         self.study, self.program, self.others = study, program, len(study.known.customers) - 2
         rows = [Row(number, pair, tier_of(study.known, pair.attacker), outcome)
                 for number, (pair, outcome) in enumerate(zip(study.pairs, outcomes), 1)]
-        self.rows = sorted(rows, key=lambda row: (-row.outcome.data.captured, -row.outcome.control.captured, row.number))
+        self.rows = sorted(rows, key=lambda row: (-row.outcome.data.captured, -row.outcome.control.captured,
+                                                  row.number))
         # Of each plane the mean shares: of captured ones with an interval, of others without.
         self.captured = {name: mean_of(self.shares(name, self.rows)) for name in PLANES}
         self.by_tier = {tier: mean_of(self.shares("data", rows)) for tier, rows in self.tiers().items()}
@@ -49,7 +50,7 @@ class Table:
         return {tier: rows for tier, rows in found.items() if rows}
 
     def shares(self, plane: str, rows: Sequence[Row], name: str = "captured") -> List[float]:
-        """Of each row what part of the others is captured, or another one of NUMBERS; none where there are no others."""
+        """Of each row what part of the others is captured, or another one of NUMBERS; 0 where there are no others."""
         return [getattr(row.plane(plane), name) / max(self.others, 1) for row in rows]
 
     @property
@@ -106,7 +107,8 @@ def csv_of(table: Table) -> str:
     """The table as CSV, with a head."""
     made = io.StringIO()
     writer = csv.writer(made, lineterminator="\n")
-    writer.writerow(["number", "victim", "attacker", "kind", "tier", *NUMBERS, *("%s_by_routes" % name for name in NUMBERS), "played"])
+    of_routes = ["%s_by_routes" % name for name in NUMBERS]
+    writer.writerow(["number", "victim", "attacker", "kind", "tier", *NUMBERS, *of_routes, "played"])
     for row in table.rows:
         cells = [getattr(row.plane(plane), name) for plane in PLANES for name in NUMBERS]
         writer.writerow([row.number, *row.pair, table.study.kind, row.tier, *cells, row.outcome.played])
@@ -121,10 +123,12 @@ def json_of(table: Table) -> str:
     """The table for a program."""
     study = table.study
     rows = [{"number": row.number, "victim": row.pair.victim, "attacker": row.pair.attacker, "tier": row.tier,
-             "data": row.outcome.data, "control": row.outcome.control, "played": row.outcome.played} for row in table.rows]
+             "data": row.outcome.data, "control": row.outcome.control, "played": row.outcome.played}
+            for row in table.rows]
+    tiers = [{"tier": tier, "pairs": len(table.tiers()[tier]), "captured": share}
+             for tier, share in table.by_tier.items()]
     return documents.text_of(documents.document(
-        "hijack", file=study.path, sha256=study.digest, ases=len(study.known.customers), kind=study.kind, seed=study.seed,
-        rov=_deployed(study.rov), peerlock=_deployed(study.peerlock), played="all" if study.is_all else "above",
-        program=table.program, captured=table.captured,
-        tiers=[{"tier": tier, "pairs": len(table.tiers()[tier]), "captured": share} for tier, share in table.by_tier.items()],
+        "hijack", file=study.path, sha256=study.digest, ases=len(study.known.customers), kind=study.kind,
+        seed=study.seed, rov=_deployed(study.rov), peerlock=_deployed(study.peerlock),
+        played="all" if study.is_all else "above", program=table.program, captured=table.captured, tiers=tiers,
         pairs=rows))

@@ -38,7 +38,8 @@ class RecordFile:
         except FileExistsError:
             raise Mistake("it is there already: --resume goes on with it", path) from None
         except (BlockingIOError, PermissionError) as error:
-            raise Mistake("it cannot be written, or another %s writes it: %s" % (self.what, error.strerror), path) from None
+            told = "it cannot be written, or another %s writes it: %s" % (self.what, error.strerror)
+            raise Mistake(told, path) from None
         except (OSError, ValueError) as error:
             raise Mistake("it cannot be written: %s" % (getattr(error, "strerror", None) or error), path) from None
 
