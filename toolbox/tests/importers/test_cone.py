@@ -1,6 +1,6 @@
-"""The cone of origins and observers: its ASes choose what they choose in the whole graph, and so do those that are decided
-afterwards. What they choose is computed here without the cone, decided again and again, in three passes, or by the
-program on the whole graph."""
+"""The cone of origins and observers: its ASes choose what they choose in the whole graph, and so do those that are
+decided afterwards. What they choose is computed here without the cone, decided again and again, in three passes, or by
+the program on the whole graph."""
 import collections
 import gzip
 import hashlib
@@ -13,7 +13,7 @@ from relations import fixpoint, internet, kinds_of, relations
 from bgptools.cli import from_as_rel
 from bgptools.convergence.run import Run
 from bgptools.importers.relationships import cone_script
-from bgptools.importers.relationships.caida import Marking, Relations, routers_of
+from bgptools.importers.relationships.caida import Marking, Relations, Writer, routers_of
 from bgptools.importers.relationships.cone import ancestors, cone, induced, without_idle_peerings
 from bgptools.importers.relationships.stub_decision import decisions, downwards
 from bgptools.program.mistakes import Mistake
@@ -55,9 +55,9 @@ def with_none(asns, chosen):
 class Theorem(Case):
     """On 200 graphs, one prefix from up to three origins."""
 
-    def some(self, seed):
+    def some(self, first, count=100):
         """Graphs, with what all of their ASes choose, and lots."""
-        for seed in range(seed, seed + 100):
+        for seed in range(first, first + count):
             kinds, lots = drawn(seed), random.Random(-seed)
             asns = asns_in(kinds)
             origins = lots.sample(asns, lots.choice((1, 2, 2, 3)))
@@ -93,6 +93,23 @@ class Theorem(Case):
                 self.assertEqual(decisions(known, self.chosen_in(part, origins)), with_none(asns, whole))
             sellers = {one for (one, _), kind in kinds.items() if kind}
             self.assertEqual(set(cone(known, origins).customers), sellers | set(origins))
+
+    def test_all_observers_of_a_graph_that_is_too_large(self):
+        """A network of few ASes, down to those above the origins: more are decided afterwards."""
+        between = 0
+        for kinds, asns, origins, whole, lots in self.some(400, 60):
+            known = graph_of(kinds)
+            least = len(ancestors(known, origins))
+            most = lots.randrange(least, len(cone(known, origins).customers) + 1)
+            graph, interest = cone_script.Graph(known, "rel", ""), cone_script.Interest(origins)
+            with mock.patch.object(cone_script, "MOST_ROUTERS", most):
+                part = cone_script.cone_of(graph, interest)
+            with mock.patch.object(cone_script, "MOST_ROUTERS", least - 1):
+                self.assertRaisesRegex(Mistake, "name fewer origins", cone_script.cone_of, graph, interest)
+            self.assertTrue(least <= len(part.customers) <= most)
+            self.assertEqual(decisions(known, self.chosen_in(part, origins)), with_none(asns, whole))
+            between += least < len(part.customers) < len(cone(known, origins).customers)
+        self.assertGreater(between, 10)
 
     def test_peerings_that_nothing_crosses(self):
         """None has more than three neighbours here, where only such peerings make them more."""
@@ -186,14 +203,18 @@ class Internet(Case):
 class OnTheProgram(Case):
     """What from-as-rel writes, converged."""
 
+    ties = 0
+
     def tables(self, path):
-        """What each AS of a script chooses for each prefix, without communities."""
+        """What each AS of a script chooses for each prefix, without communities. Where addresses decide is counted."""
         with Run() as run:
             run.play(read(str(path)))
             self.assertTrue(run.converge().is_converged)
             routers = run.network.routers()
             replies = run.ask("routes " + router for router in routers)
             asns = [run.network.nodes[router].asn for router in routers]
+            asked = ["why %s %s" % (router, prefix) for router in routers for prefix in run.network.prefixes]
+            self.ties += sum(line.endswith(" ident") for reply in run.ask(asked) for line in reply)
         return {asn: [line.split(" comms=")[0] for line in reply[:-1]] for asn, reply in zip(asns, replies)}
 
     def made(self, text, *words):
@@ -210,7 +231,7 @@ class OnTheProgram(Case):
 
     def test_routes_are_those_of_the_whole_graph(self):
         """Also for a second origin of a prefix, with ties; ASes above 65535 among them."""
-        left_out = ties = 0
+        left_out = 0
         for seed in range(6):
             kinds = drawn(1000 + seed)
             known, text = graph_of(kinds), "".join("%d|%d|%d\n" % (*pair, kind) for pair, kind in kinds.items())
@@ -232,30 +253,64 @@ class OnTheProgram(Case):
                     chosen = {asn: self.paths(lines, prefix) for asn, lines in found.items()}
                     self.assertEqual(decisions(known, chosen),
                                      {asn: self.paths(lines, prefix) for asn, lines in expected.items()})
-            ties += sum(lines != [] for lines in expected.values())
         self.assertGreater(left_out, 200)
-        self.assertGreater(ties, 200)
+        self.assertGreater(self.ties, 100)
 
     def prefix(self, script, at):
         return [line.split(" ")[2] for line in script.split("\n") if line.startswith("origin ")][at]
 
+    def changes(self, writer, lots):
+        """Commands that prepend, filter, keep routes inside an AS by NO_EXPORT, and fail links, at ASes of a part."""
+        for one, other, kind in sorted(writer.known.ties):
+            ends = [writer.routers[one], writer.routers[other]]
+            here, there = ends if lots.random() < 0.5 else ends[::-1]
+            what = lots.choice(("fail", "prepend", "filter", "keep", "", "", "", ""))
+            if what == "fail":
+                yield "fail %s %s" % (here, there)
+            elif what == "filter":
+                yield "clear %s %s in" % (here, there)
+                yield "rule %s %s in path %d deny" % (here, there, lots.choice(writer.known.asns()))
+                yield "rule %s %s in any permit pref=%d" % (
+                    here, there, 90 if not kind else 100 if here == ends[0] else 80)
+            elif what:
+                yield "rule %s %s out any permit %s" % (
+                    here, there, "prepend=2" if what == "prepend" else "add=4294967041")
+
+    def test_policies_that_keep_it_exact(self):
+        """The same changes to the whole graph and to the cone: ASes of the cone choose the same routes."""
+        changed = 0
+        for seed in range(6):
+            known, lots = graph_of(drawn(2000 + seed)), random.Random(seed)
+            origins, observers = lots.sample(known.asns(), 2), lots.sample(known.asns(), 8)
+            part, whole = (Writer(each, origins, known) for each in (cone(known, origins, observers), known))
+            changes = list(self.changes(part, lots))
+            before, expected, found = (self.tables(self.file("a.bgp", "".join(line + "\n" for line in lines))) for lines in (
+                whole.lines(), whole.lines() + changes, part.lines() + changes))
+            self.assertEqual(found, {asn: expected[asn] for asn in part.known.asns()})
+            changed += sum(before[asn] != expected[asn] for asn in found)
+        self.assertGreater(changed, 50)
+
     def test_check_compares_with_the_whole_graph_or_a_larger_part(self):
         text = "\n".join(relations(300)) + "\n"
         _, said = self.made(text, "--about", "299,150", "--observers", "298", "--check", "1")
-        self.assertRegex(said, r"rel: 0 of \d\d ASes choose other routes in the whole graph\n$")
+        self.assertRegex(said, r"rel: checked with the whole graph: 0 of (\d\d) ASes choose other routes, and 0 of "
+                               r"2\d\d that are decided afterwards\n$")
         with mock.patch.object(cone_script, "MOST_ROUTERS", 200), mock.patch.object(cone_script, "MORE", 32):
             _, said = self.made(text, "--about", "299,150", "--observers", "298", "--check", "1", "--communities")
-        self.assertRegex(said, r"rel: 0 of \d\d ASes choose other routes in a part of \d\d ASes\n$")
+        self.assertRegex(said, r"rel: checked with a part of \d\d ASes: 0 of \d\d ASes choose other routes, and 0 of "
+                               r"\d\d that are decided afterwards\n$")
 
     def test_check_finds_what_is_wrong(self):
-        """A cone that lacks a provider of the observer: AS 4 chose 2, and has 3 left."""
-        path = self.file("rel", "1|2|-1\n1|3|-1\n2|4|-1\n3|4|-1\n1|5|-1\n")
+        """A cone that lacks a provider of the observer: AS 4 chose 2, and has 3 left. So has 6, which buys from 4."""
+        path = self.file("rel", "1|2|-1\n1|3|-1\n2|4|-1\n3|4|-1\n1|5|-1\n4|6|-1\n")
         with mock.patch.object(from_as_rel, "cone_of", lambda graph, _: induced(graph.known, {1, 3, 4, 5})):
             ran = inside("from-as-rel", path, "--about", "5", "--observers", "4", "--check", "3")
         route = "100.0.4.0/24 from 10.0.%d.1 path=%d,1,5 origin=igp next=10.0.%d.1 med=- pref=80 oid=- clusters=-"
         self.assertEqual((ran.returncode, ran.stdout), (3, ""))
-        self.assertEqual(ran.stderr, "%s: AS 4 chooses %s; in the larger part %s\n%s: 1 of 4 ASes choose other routes in the "
-                         "whole graph\n" % (path, route % (3, 3, 3), route % (2, 2, 2), path))
+        self.assertEqual(ran.stderr, (
+            "{0}: AS 4 chooses {1}; in the larger part {2}\n{0}: AS 6 chooses 100.0.4.0/24 path=4,3,1,5; in the larger "
+            "part 100.0.4.0/24 path=4,2,1,5\n{0}: checked with the whole graph: 1 of 4 ASes choose other routes, and 1 "
+            "of 2 that are decided afterwards\n").format(path, route % (3, 3, 3), route % (2, 2, 2)))
 
     def test_no_larger_part_fits(self):
         path = self.file("rel", "1|2|-1\n1|3|-1\n1|4|-1\n")
@@ -265,15 +320,18 @@ class OnTheProgram(Case):
             2, "%s: --check: no larger cone fits into a network; name fewer observers\n" % path))
 
     def test_a_leak(self):
-        """AS 4 buys from 1 and 2, which are peers; the origin 3 buys from 1. AS 5 buys from 2.
+        """AS 4 buys from 1 and 2, which are peers; the origin 3 buys from 1, 5 and 6 buy from 2. AS 6 is a peer of 4.
 
         2 gets the leak from its customer 4 and prefers it to the peer's route: so does 5 below it. The exact cone has
-        4, though it is above neither the origin nor the observer."""
-        text = "1|2|0\n1|3|-1\n1|4|-1\n2|4|-1\n2|5|-1\n1|6|-1\n"
+        4, though it is above neither the origin nor the observer. AS 6, decided afterwards, prefers its peer 4."""
+        text = "1|2|0\n1|3|-1\n1|4|-1\n2|4|-1\n2|5|-1\n2|6|-1\n6|4|0\n"
+        known = graph_of(kinds_of(text.split("\n")[:-1]))
         for words in ([], ["--communities"]):
-            made, _ = self.made(text, "--about", "3", "--observers", "5", "--leak", "4", "--check", "1", *words)
+            made, said = self.made(text, "--about", "3", "--observers", "5", "--leak", "4", "--check", "1", *words)
+            self.assertIn("0 of 5 ASes choose other routes, and 0 of 1 that are", said)
             found = {asn: self.paths(lines, "100.0.2.0/24") for asn, lines in self.tables(made).items()}
             self.assertEqual(found, {1: (3,), 2: (4, 1, 3), 3: (), 4: (1, 3), 5: (2, 4, 1, 3)})
+            self.assertEqual(decisions(known, found, [4])[6], (4, 1, 3))
             made, _ = self.made(text, "--about", "3", "--observers", "5", *words)
             found = {asn: self.paths(lines, "100.0.2.0/24") for asn, lines in self.tables(made).items()}
             self.assertEqual(found, {1: (3,), 2: (1, 3), 3: (), 5: (2, 1, 3)})
@@ -290,7 +348,7 @@ class Script(Case):
         self.assertEqual(made.stdout.split("\n")[1:8], [
             "# graph: a.gz, SHA-256 " + hashlib.sha256(path.read_bytes()).hexdigest(),
             "# origins: AS 4, 80000", "# leaks: AS 2", "# observers: AS 2",
-            "# 5 ASes and 4 relationships stand for 7 and 6: all that is above an origin or an observer",
+            "# 5 ASes and 4 relationships stand for 7 and 6: what is above an origin or an observer",
             "# Exact for prefixes of these origins: a route comes from a customer or a peer only if an origin is",
             "#   below it, else from a provider; and these are all here. See docs/explanation/cone.md"])
 
@@ -326,23 +384,26 @@ class Script(Case):
         many = "".join("1|%d|-1\n%d|%d|-1\n" % (asn, asn, asn + 5000) for asn in range(2, 5000))
         star = "".join("1|%d|-1\n" % asn for asn in range(2, 300))
         for text, words, said in (
-                (many, ["--about", "2"], "the cone has 4999 ASes, and a network has at most 4096; name some observers"),
+                (many, ["--about", "2", "--observers", ",".join(map(str, range(2, 5000)))],
+                 "the cone has 4999 ASes, and a network has at most 4096; name fewer observers\n"),
                 (star, ["--about", ",".join(map(str, range(2, 260)))],
-                 "the cone has 258 neighbours of AS 1, and a router has at most 256 sessions; name some observers")):
+                 "the cone has 258 neighbours of AS 1, and a router has at most 256 sessions; name fewer origins\n")):
             ran = inside("from-as-rel", self.file("rel", text), *words)
             self.assertEqual((ran.returncode, ran.stdout), (2, ""))
             self.assertIn(said, ran.stderr)
+        self.assertEqual(inside("from-as-rel", self.file("rel", many), "--about", "2").stdout.count("\nrouter "), 2)
 
     def test_mistakes(self):
         path = self.file("rel", "1|2|-1\n2|3|-1\n3|1|-1\n4|5|-1\n1|5|0\n")
         for words, said in (
-                (["--about", "3"], "%s: AS 2 > 3 > 1 > 2, each a provider of the next one, are a loop, so that no cone is "
-                                   "exact: write who of two is the provider the other way, or 0 for peers" % path),
+                (["--about", "3"], "%s: AS 2 > 3 > 1 > 2, each a provider of the next one, are a loop, so that no cone "
+                                   "is exact: write who of two is the provider the other way, or 0 for peers" % path),
                 (["--about", "5,9"], "%s: --about 5,9: AS 9 is not among those of the network" % path),
-                (["--about", "5", "--observers", "x"], "%s: --observers x: AS x is not among those of the network" % path),
+                (["--about", "5", "--observers", "x"],
+                 "%s: --observers x: AS x is not among those of the network" % path),
                 (["--leak", "7"], "%s: --leak 7: AS 7 is not among those of the network" % path),
-                (["--about", "5", "--core", "3"], "--about names the origins, and takes the place of --core and --origins: "
-                                                  "write it without them"),
+                (["--about", "5", "--core", "3"], "--about names the origins, and takes the place of --core and "
+                                                  "--origins: write it without them"),
                 (["--observers", "5"], "--observers and --check go with --about: write --about ORIGINS, too"),
                 (["--about", "5", "--check", "x"], "--check x: a number is expected, 0 to 4294967295")):
             ran = inside("from-as-rel", path, *words)

@@ -8,7 +8,7 @@ from ...program.language import number, show_address
 from ...program.mistakes import Mistake
 from ..common.sources import MOST_UNPACKED, lines_in
 
-MOST_ROUTERS, MOST_SESSIONS = 4096, 256
+MOST_ROUTERS, MOST_LINKS, MOST_SESSIONS = 4096, 16384, 256
 # So much is read before the ASes with the most relationships are taken: twice what the world has.
 MOST_TIES, MOST_ASES = 2000000, 200000
 FORM = "PROVIDER|CUSTOMER|-1 or PEER|PEER|0 is expected, each an AS number"
@@ -50,6 +50,11 @@ class Relations:
 
     def degree(self, asn: int) -> int:
         return len(self.customers[asn]) + len(self.providers[asn]) + len(self.peers[asn])
+
+
+def counted(count: int, noun: str) -> str:
+    """So many ASes or relationships, in words: `1 AS`, `2 ASes`, `1 relationship`."""
+    return "%d %s%s" % (count, noun, "" if count == 1 else "es" if noun == "AS" else "s")
 
 
 def relations(path: str, most: int = MOST_UNPACKED, digest: Any = None) -> Relations:
@@ -101,8 +106,8 @@ def provider_loop(known: Relations) -> List[int]:
 class Writer:
     """The script, with policies that name neighbours.
 
-    An AS has the router, the prefix and the marks that it has in the `whole` graph, where `known` is a part of one. ASes
-    that `leak` advertise all their routes to peers and providers. `head` are comments behind the first one."""
+    An AS has the router, the prefix and the marks that it has in the `whole` graph, where `known` is a part of one.
+    ASes that leak advertise all their routes to peers and providers. `head` are comments behind the first one."""
     HEAD = ["# Valley-free policies: routes of customers have preference 100, as a router's own, those of peers 90, "
             "those of providers 80."]
 
@@ -116,7 +121,8 @@ class Writer:
     def lines(self) -> List[str]:
         lines = self.head + ["router %s %d" % (self.routers[asn], asn) for asn in self.known.asns()]
         for one, other, _ in self.known.ties:
-            lines += ["link %s %s 1" % (self.routers[one], self.routers[other]), "join %s %s" % (self.routers[one], self.routers[other])]
+            ends = self.routers[one], self.routers[other]
+            lines += ["link %s %s 1" % ends, "join %s %s" % ends]
         for asn in self.known.asns():
             lines += self._policies(asn)
         return lines + ["origin %s %s" % (self.routers[asn], self.prefixes[asn]) for asn in self.origins]
@@ -124,14 +130,16 @@ class Writer:
     def _policies(self, asn: int) -> List[str]:
         """Towards peers and providers go its own routes and its customers', and nothing else.
 
-        Each of the others' routes is denied by its first AS. No rule can permit a router's own routes alone, since their path is empty: so nothing
-        is permitted by name, and the policy is right for whatever it originates later. With 256 sessions an AS there are never more than 255 rules."""
+        Each of the others' routes is denied by its first AS. No rule can permit a router's own routes alone, since
+        their path is empty: so nothing is permitted by name, and the policy is right for whatever it originates later.
+        With 256 sessions an AS there are never more than 255 rules."""
         known, here = self.known, self.routers[asn]
         lines = ["rule %s %s in any permit pref=%d" % (here, self.routers[other], PREFERENCES[kind])
                  for kind, others in ((PEER, known.peers[asn]), (PROVIDER, known.providers[asn]))
                  for other in sorted(others)]
         upward = self._upward(asn)
-        return lines + ["rule %s %s out first %d deny" % (here, self.routers[to], other) for to in upward for other in upward if other != to]
+        return lines + ["rule %s %s out first %d deny" % (here, self.routers[to], other)
+                        for to in upward for other in upward if other != to]
 
     def _upward(self, asn: int) -> List[int]:
         """The neighbours that do not get all routes of the AS."""
@@ -171,7 +179,8 @@ class Marking(Writer):
         return [self.before.get(asn, asn << 16) + kind for kind in (CUSTOMER, PEER, PROVIDER)]
 
     def _policies(self, asn: int) -> List[str]:
-        """A rule for what comes from a neighbour, and two for what goes to a peer or provider, whoever else is there."""
+        """A rule for what comes from a neighbour, and two for what goes to a peer or provider, whoever else is
+        there."""
         known, here, marks = self.known, self.routers[asn], self._marks(asn)
         settings = dict.fromkeys(known.customers[asn], "add=%d" % marks[0])
         for kind, others in ((PEER, known.peers[asn]), (PROVIDER, known.providers[asn])):

@@ -9,7 +9,7 @@ from __future__ import annotations
 from typing import Iterable, List, Optional, Set
 
 from ...program.mistakes import Mistake
-from .caida import MOST_SESSIONS, Relations, provider_loop
+from .caida import MOST_LINKS, MOST_SESSIONS, Relations, provider_loop
 
 
 def ancestors(known: Relations, asns: Iterable[int]) -> Set[int]:
@@ -38,11 +38,13 @@ def induced(known: Relations, kept: Set[int]) -> Relations:
     return found
 
 
-def without_idle_peerings(known: Relations, above: Set[int], most: int = MOST_SESSIONS) -> Relations:
-    """Without the peerings that no route of the origins crosses, at ASes that have more than so many neighbours.
+def without_idle_peerings(known: Relations, above: Set[int], most: int = MOST_SESSIONS,
+                          links: int = MOST_LINKS) -> Relations:
+    """Without the peerings that no route of the origins crosses, at ASes that have more than so many neighbours; and
+    everywhere, if there are more than so many relationships.
 
     `above` are the ASes above the origins: a peering is crossed from one of them alone."""
-    crowded = {asn for asn in known.customers if known.degree(asn) > most}
+    crowded = {asn for asn in known.customers if known.degree(asn) > most or len(known.ties) > links}
     if not crowded:
         return known
     found = Relations()
@@ -58,14 +60,22 @@ def without_idle_peerings(known: Relations, above: Set[int], most: int = MOST_SE
     return found
 
 
+def without_leaves(known: Relations, above: Set[int]) -> Relations:
+    """A cone without its ASes that have no customers and are not above an origin: they decide nothing for the others,
+    and can be decided afterwards."""
+    return induced(known, {asn for asn, customers in known.customers.items() if customers or asn in above})
+
+
 def cone(known: Relations, origins: Iterable[int], observers: Optional[Iterable[int]] = None) -> Relations:
     """The ASes above the origins and the observers, with the relationships between them.
 
     Each of its ASes chooses for a prefix that some of the origins originate what it chooses in the whole graph. An AS
     that leaks is named among the origins. Without observers all ASes are kept but those that have no customers and are
-    no origins: these are decided afterwards (`stub_decision`). Where an AS has more than 256 neighbours, peerings that
-    no route of the origins crosses are left out. Raises Mistake where an AS is not in the graph, and where providers
-    are a loop: then more than one stable state may exist, or none."""
+    no origins: these are decided afterwards (`stub_decision`). Where an AS has more than 256 neighbours, or the cone
+    more than 16,384 relationships, peerings that no route of the origins crosses are left out.
+
+    Raises Mistake where an AS is not in the graph, and where providers are a loop: then more than one stable state may
+    exist, or none."""
     sources: List[int] = list(origins)
     watched = [asn for asn in known.customers if known.customers[asn]] if observers is None else list(observers)
     above = ancestors(known, sources)

@@ -4,7 +4,7 @@ from __future__ import annotations
 from typing import List, NamedTuple, Optional
 
 from ...program.mistakes import Mistake
-from .caida import MOST_ROUTERS, MOST_SESSIONS, Relations, Tie
+from .caida import MOST_LINKS, MOST_ROUTERS, MOST_SESSIONS, Relations, Tie, counted
 from .cone import induced
 
 # So many ASes are named that lose all providers, where not all are.
@@ -20,10 +20,10 @@ def core(whole: Relations, count: Optional[int]) -> Relations:
 
 def within_limits(whole: Relations, path: str) -> Relations:
     """All ASes, with the relationships that 256 sessions an AS leave room for, those of the greater neighbours first;
-    raises Mistake where the ASes are too many for a network."""
+    raises Mistake where the ASes, or these relationships, are too many for a network."""
     if len(whole.customers) > MOST_ROUTERS:
-        raise Mistake("it has %d ASes, and a network has at most %d: --about ORIGINS keeps those that decide the routes "
-                      "of some, --core %d those with the most relationships" % (
+        raise Mistake("it has %d ASes, and a network has at most %d: --about ORIGINS keeps those that decide the "
+                      "routes of some, --core %d those with the most relationships" % (
                           len(whole.customers), MOST_ROUTERS, MOST_ROUTERS), path)
     kept: List[Tie] = []
     count = dict.fromkeys(whole.customers, 0)
@@ -32,6 +32,10 @@ def within_limits(whole: Relations, path: str) -> Relations:
             kept.append(tie)
             count[tie[0]] += 1
             count[tie[1]] += 1
+    if len(kept) > MOST_LINKS:
+        raise Mistake("%d relationships of %d ASes, and a network has at most %d links: --about ORIGINS keeps those "
+                      "that decide the routes of some, --core N those of the N ASes with the most" % (
+                          len(kept), len(whole.customers), MOST_LINKS), path)
     return whole if len(kept) == len(whole.ties) else _with(whole, kept)
 
 
@@ -46,8 +50,8 @@ def _with(whole: Relations, ties: List[Tie]) -> Relations:
 
 
 class Cut(NamedTuple):
-    """What a part of a graph lacks: the ASes, the relationships, and of these those of which both ends are kept, by their
-    numbers; and which of the ASes that are kept lose a provider, and which all of theirs, ascending."""
+    """What a part of a graph lacks: how many ASes, relationships, and relationships of which both ends are kept; and
+    which of the ASes that are kept lose a provider, and which all of theirs, ascending."""
     ases: int
     relationships: int
     between: int
@@ -76,19 +80,20 @@ def told(lost: Cut, names_all: bool = False) -> List[str]:
     """What is lost, as lines for who made the cut; none where nothing is."""
     if not lost.ases and not lost.relationships:
         return []
-    what = "%d ASes and %d relationships" % (lost.ases, lost.relationships)
+    what = "%s and %s" % (counted(lost.ases, "AS"), counted(lost.relationships, "relationship"))
     if not lost.changes_routes:
-        return ["note: %s are left out, which decide no route of the other ASes" % what]
+        return ["note: %s are left out, which decide no route of the others" % what]
     if lost.between:
-        what = "%s, %d of them" % (what, lost.between) if lost.ases else "%d relationships," % lost.between
+        what = "%s, %d of them" % (what, lost.between) if lost.ases else counted(lost.between, "relationship") + ","
         what += " since an AS has at most %d sessions" % MOST_SESSIONS
     lines = ["not taken over: %s; routes can differ from those of the whole graph, and --about ORIGINS writes a part "
              "in which they do not" % what]
     if lost.orphans:
         shown = lost.orphans if names_all else lost.orphans[:SHOWN]
         left = len(lost.orphans) - len(shown)
-        lines.append("not taken over: all providers of %d ASes: AS %s%s" % (
-            len(lost.orphans), ", ".join(map(str, shown)), " and %d more (--all names them)" % left if left else ""))
+        more = " and %d more (--all names them)" % left if left else ""
+        lines.append("not taken over: all providers of %s: AS %s%s" % (
+            counted(len(lost.orphans), "AS"), ", ".join(map(str, shown)), more))
     if len(lost.losing) > len(lost.orphans):
-        lines.append("not taken over: some providers of %d ASes" % (len(lost.losing) - len(lost.orphans)))
+        lines.append("not taken over: some providers of " + counted(len(lost.losing) - len(lost.orphans), "AS"))
     return lines

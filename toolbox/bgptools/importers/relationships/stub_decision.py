@@ -6,7 +6,7 @@ the shortest path, then the lowest address. What lies between ties here: each ro
 external, and each link costs 1. An AS has one router, whose address grows with its number."""
 from __future__ import annotations
 
-from typing import Dict, Iterator, List, Mapping, Optional, Tuple
+from typing import Collection, Dict, Iterator, List, Mapping, Optional, Tuple
 
 from .caida import CUSTOMER, PEER, PROVIDER, PREFERENCES, Relations
 
@@ -14,32 +14,37 @@ from .caida import CUSTOMER, PEER, PROVIDER, PREFERENCES, Relations
 Path = Tuple[int, ...]
 
 
-def decision(known: Relations, asn: int, chosen: Mapping[int, Optional[Path]]) -> Optional[Path]:
+def decision(known: Relations, asn: int, chosen: Mapping[int, Optional[Path]],
+             leaks: Collection[int] = ()) -> Optional[Path]:
     """The path of the route that an AS chooses, where its neighbours chose these; None where it gets none.
 
-    An AS that is missing, or has None, has no route to pass on: so leave out one whose route has NO_EXPORT."""
-    best = min(_offers(known, asn, chosen), default=None)
+    An AS that is missing, or has None, has no route to pass on: so leave out one whose route has NO_EXPORT. Those that
+    `leak` pass all routes on."""
+    best = min(_offers(known, asn, chosen, leaks), default=None)
     return best[-1] if best else None
 
 
-def _offers(known: Relations, asn: int, chosen: Mapping[int, Optional[Path]]) -> Iterator[Tuple[int, int, int, Path]]:
+def _offers(known: Relations, asn: int, chosen: Mapping[int, Optional[Path]],
+            leaks: Collection[int]) -> Iterator[Tuple[int, int, int, Path]]:
     """What the neighbours of an AS advertise to it, as it compares them, less its loops."""
     for kind, others in ((CUSTOMER, known.customers[asn]), (PEER, known.peers[asn]), (PROVIDER, known.providers[asn])):
         for other in others:
             path = chosen.get(other)
-            if path is None or asn in path or kind != PROVIDER and path and path[0] not in known.customers[other]:
+            if path is None or asn in path:
                 continue
-            # Prepending shows in what an AS has received, and its own number is put in front once.
-            yield -PREFERENCES[kind], len(path) + 1, other, (other,) + path
+            if kind == PROVIDER or other in leaks or not path or path[0] in known.customers[other]:
+                # Prepending shows in what an AS has received, and its own number is put in front once.
+                yield -PREFERENCES[kind], len(path) + 1, other, (other,) + path
 
 
-def decisions(known: Relations, chosen: Mapping[int, Optional[Path]]) -> Dict[int, Optional[Path]]:
+def decisions(known: Relations, chosen: Mapping[int, Optional[Path]],
+              leaks: Collection[int] = ()) -> Dict[int, Optional[Path]]:
     """What each AS chooses, where those of a cone chose these: `chosen` has each AS of the cone, with None for no
     route. ASes are decided behind their providers, which must not be a loop."""
     found: Dict[int, Optional[Path]] = dict(chosen)
     for asn in downwards(known):
         if asn not in found:
-            found[asn] = decision(known, asn, found)
+            found[asn] = decision(known, asn, found, leaks)
     return found
 
 
