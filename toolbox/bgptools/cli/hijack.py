@@ -3,6 +3,7 @@ from __future__ import annotations
 
 import argparse
 import hashlib
+import sys
 from typing import List, Optional
 
 from ..hijack.attack import KINDS
@@ -16,7 +17,7 @@ from ..hijack.table import Table, csv_of, json_of, text_of
 from ..importers.common.sources import add_words, named
 from ..importers.relationships.caida import provider_loop, relations
 from ..program import display, location, output, provenance
-from ..program.mistakes import CHANGED, Mistake
+from ..program.mistakes import CHANGED, WRONG, Mistake
 from ..program.process_pool import processors
 
 DEPLOYED = "AS,.. or top:N, those with the most relationships, or share:P:SEED, this part of all, drawn"
@@ -28,7 +29,8 @@ def parser() -> argparse.ArgumentParser:
         "Lets attackers hijack prefixes of victims in a graph of ASes, each pair on its own, and tells whom each "
         "captures: whose packets to the victim end at the attacker, and whose route leads there. Policies are those of "
         "from-as-rel. The program plays the ASes above victim and attacker; all others follow by one decision each."),
-        epilog="Exit status: 0 nobody is captured; 1 somebody is; 2 a mistake.")
+        epilog="Exit status: 0 nobody is captured; 1 somebody is; 2 a mistake, as a pair that is too large to be played: the "
+               "others are told all the same.")
     made.add_argument("file", metavar="FILE", help=(
         "the relationships, as of from-as-rel; - is standard input; a name that ends with .gz or .bz2 is unpacked"))
     made.add_argument("--kind", choices=KINDS, required=True, help=(
@@ -117,4 +119,6 @@ def main(words: Optional[List[str]] = None) -> int:
         output.write(json_of(table), chosen.out)
     else:
         display.write(text_of(table), chosen.out)
-    return CHANGED if table.is_any else 0
+    for row in table.failed:
+        print("pair %d %d: %s" % (*row.pair, row.outcome.mistake), file=sys.stderr)
+    return WRONG if table.failed else CHANGED if table.is_any else 0

@@ -31,10 +31,11 @@ class Plane:
 @dataclass
 class Outcome:
     """What a hijack does, by packets (`data`) and by routes (`control`). `played` ASes were played in the program, the
-    others decided below them."""
+    others decided below them. `mistake` says why a pair was not played."""
     data: Plane
     control: Plane
     played: int
+    mistake: str = ""
 
     def as_json(self) -> Dict[str, Any]:
         """The numbers for a file."""
@@ -43,7 +44,12 @@ class Outcome:
     @classmethod
     def of_json(cls, found: Dict[str, Any]) -> "Outcome":
         """The outcome from a file; TypeError or KeyError where it is none."""
-        return cls(Plane(**found["data"]), Plane(**found["control"]), int(found["played"]))
+        return cls(Plane(**found["data"]), Plane(**found["control"]), int(found["played"]), str(found["mistake"]))
+
+    @classmethod
+    def failed(cls, mistake: str) -> "Outcome":
+        """That of a pair that was not played."""
+        return cls(Plane(0, 0, 0), Plane(0, 0, 0), 0, mistake)
 
 
 def outcome_of(below: Below, played: Played, pair: Pair, kind: str) -> Outcome:

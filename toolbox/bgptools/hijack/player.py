@@ -28,6 +28,10 @@ class Choice(NamedTuple):
     is_to_all: bool
 
 
+class TooLarge(Mistake):
+    """The part of the graph that decides a pair is larger than what the program holds."""
+
+
 # What each AS chose for a prefix; an AS without a route is missing.
 Choices = Dict[int, Choice]
 
@@ -43,17 +47,17 @@ class Played:
 
 
 def part_of(known: Relations, pair: Pair, is_all: bool) -> Relations:
-    """The ASes above victim and attacker, or all but those that have no customers; raises Mistake where the program
+    """The ASes above victim and attacker, or all but those that have no customers; raises TooLarge where the program
     cannot hold them."""
     found = cone(known, pair, None if is_all else ())
+    advice = ": leave --played all out" if is_all else ""
     if len(found.customers) > MOST_ROUTERS:
-        raise Mistake("pair %d %d: %d ASes are to be played, and a network has at most %d%s" % (
-            *pair, len(found.customers), MOST_ROUTERS, ": leave --played all out" if is_all else ""))
+        raise TooLarge("%d ASes are to be played, and a network has at most %d%s" % (
+            len(found.customers), MOST_ROUTERS, advice))
     for asn in found.asns():
         if found.degree(asn) + (asn == pair.attacker) > MOST_SESSIONS:
-            raise Mistake("pair %d %d: AS %d has %d neighbours among the %d ASes that are to be played, and a router "
-                          "has at most %d sessions%s" % (*pair, asn, found.degree(asn), len(found.customers),
-                                                         MOST_SESSIONS, ": leave --played all out" if is_all else ""))
+            raise TooLarge("AS %d has %d neighbours among the %d ASes that are to be played, and a router has at most %d "
+                           "sessions%s" % (asn, found.degree(asn), len(found.customers), MOST_SESSIONS, advice))
     return found
 
 

@@ -13,7 +13,7 @@ from .deployment import Deployment
 from .descent import Below
 from .outcome import Outcome, outcome_of
 from .pairs import Pair
-from .player import play
+from .player import TooLarge, play
 from .script import Filtering
 
 
@@ -48,6 +48,10 @@ class Laboratory:
         self.below = Below(study.known, refusing)
 
     def outcome(self, number: int) -> Outcome:
-        """What the hijack of the pair of this number does, counted from 0."""
+        """What the hijack of the pair of this number does, counted from 0; or why it is too large to be played."""
         study, pair = self.study, self.study.pairs[number]
-        return outcome_of(self.below, play(study.known, self.writer, pair, study.kind, study.is_all), pair, study.kind)
+        try:
+            played = play(study.known, self.writer, pair, study.kind, study.is_all)
+        except TooLarge as mistake:
+            return Outcome.failed(str(mistake))
+        return outcome_of(self.below, played, pair, study.kind)

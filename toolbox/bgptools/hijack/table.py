@@ -7,6 +7,7 @@ from typing import Any, Dict, List, NamedTuple, Sequence
 
 from ..change.report import count
 from ..program import documents
+from ..program.mistakes import Mistake
 from ..program.provenance import Provenance
 from .deployment import TIERS, Deployment, tier_of
 from .outcome import Outcome, Plane
@@ -32,12 +33,17 @@ class Row(NamedTuple):
 
 
 class Table:
-    """The rows of a study, the most captured by packets first. `others` are the ASes that may be captured by a pair."""
+    """The rows of a study, the most captured by packets first, and those that were `failed`: not played. `others` are
+    the ASes that may be captured by a pair. Mistake where no pair was played."""
 
     def __init__(self, study: Study, outcomes: Sequence[Outcome], program: Provenance) -> None:
         self.study, self.program, self.others = study, program, len(study.known.customers) - 2
         rows = [Row(number, pair, tier_of(study.known, pair.attacker), outcome)
                 for number, (pair, outcome) in enumerate(zip(study.pairs, outcomes), 1)]
+        self.failed = [row for row in rows if row.outcome.mistake]
+        rows = [row for row in rows if not row.outcome.mistake]
+        if not rows:
+            raise Mistake("no pair was played: pair %d %d: %s" % (*self.failed[0].pair, self.failed[0].outcome.mistake))
         self.rows = sorted(rows, key=lambda row: (-row.outcome.data.captured, -row.outcome.control.captured,
                                                   row.number))
         # Of each plane the mean shares: of captured ones with an interval, of others without.
@@ -63,7 +69,8 @@ class Table:
         study = self.study
         drawn = "" if study.seed is None else ", drawn by seed %d" % study.seed
         lines = ["Hijacks of kind %s in %s: %s%s, %d ASes" % (
-            study.kind, study.path, count(len(self.rows), "pair"), drawn, len(study.known.customers))]
+            study.kind, study.path, count(len(study.pairs), "pair"), drawn, len(study.known.customers))]
+        lines += ["NOT PLAYED: %s" % count(len(self.failed), "pair")] if self.failed else []
         for option, found in (("--rov", study.rov), ("--peerlock", study.peerlock)):
             lines += ["%s %s: %s" % (option, found.words, count(len(found.asns), "AS", "ASes"))] if found.words else []
         return lines
@@ -125,10 +132,12 @@ def json_of(table: Table) -> str:
     rows = [{"number": row.number, "victim": row.pair.victim, "attacker": row.pair.attacker, "tier": row.tier,
              "data": row.outcome.data, "control": row.outcome.control, "played": row.outcome.played}
             for row in table.rows]
+    failed = [{"number": row.number, "victim": row.pair.victim, "attacker": row.pair.attacker,
+               "mistake": row.outcome.mistake} for row in table.failed]
     tiers = [{"tier": tier, "pairs": len(table.tiers()[tier]), "captured": share}
              for tier, share in table.by_tier.items()]
     return documents.text_of(documents.document(
         "hijack", file=study.path, sha256=study.digest, ases=len(study.known.customers), kind=study.kind,
         seed=study.seed, rov=_deployed(study.rov), peerlock=_deployed(study.peerlock),
         played="all" if study.is_all else "above", program=table.program, captured=table.captured, tiers=tiers,
-        pairs=rows))
+        pairs=rows, failed=failed))

@@ -197,7 +197,7 @@ class Runs(Case):
         self.assertEqual({name: head[name] for name in ("kind", "pairs", "seed", "rov")}, {"kind": "longer", "pairs": 40, "seed": 1, "rov": ""})
         self.assertEqual(set(head["program"]), {"version", "commit", "is_proved", "kit", "digest"})
         # What is known is not played again: it stands in the table as in the file.
-        path.write_bytes(after.replace(b'"played": 6}', b'"played": 60}'))
+        path.write_bytes(after.replace(b'"played": 6,', b'"played": 60,'))
         self.assertIn(",6\n", whole)
         self.assertEqual(self.rows("--results", path, "--resume"), whole.replace(",6\n", ",60\n"))
 
@@ -274,9 +274,19 @@ class Mistakes(Hijacks):
         self.assertIn("loop: AS 2 > 3 > 1 > 2, each a provider of the next one, are a loop", told.stderr)
         # A victim with 257 providers has more sessions than a router may have.
         wide = self.file("wide", "".join("%d|1|-1\n" % asn for asn in range(2, 259)))
+        said = "pair 1 2: AS 1 has 257 neighbours among the 258 ASes that are to be played, and a router has at most 256 sessions\n"
         told = inside("hijack", wide, "--kind", "same", "--pairs", self.file("pairs", "1 2\n"), "--jobs", 1)
-        self.assertEqual((told.returncode, told.stdout), (2, ""))
-        self.assertIn("pair 1 2: AS 1 has 257 neighbours among the 258 ASes that are to be played, and a router has at most 256", told.stderr)
+        self.assertEqual((told.returncode, told.stdout, told.stderr), (2, "", "no pair was played: " + said))
+        # The others are played, and counted alone.
+        words = ("--kind", "same", "--pairs", self.file("pairs", "1 2\n3 2\n"), "--results", self.folder / "results")
+        for _ in range(2):
+            told = inside("hijack", wide, *words, "--json", "--resume")
+            self.assertEqual((told.returncode, told.stderr), (2, said))
+            found = json.loads(told.stdout)
+            self.assertEqual([(row["victim"], row["mistake"]) for row in found["failed"]], [(1, said[len("pair 1 2: "):-1])])
+            # AS 1 alone hears both, and takes that of the lower number.
+            self.assertEqual([row["data"] for row in found["pairs"]], [{"captured": 1, "kept": 0, "disconnected": 255}])
+        self.assertIn("\nNOT PLAYED: 1 pair\n", inside("hijack", wide, *words, "--resume").stdout)
         tops = self.file("tops", "".join("%d|1|-1\n" % asn for asn in range(2, 204)))
         told = inside("hijack", tops, "--kind", "leak", "--count", 1, "--peerlock", "1", "--jobs", 1)
         self.assertIn("--peerlock 1: 202 ASes have customers and no provider, and the rules look for at most 200", told.stderr)
