@@ -7,7 +7,7 @@ from ..change.report import count
 from .statistics import Share
 
 WIDTH, HEIGHT = 640, 300
-LEFT, TOP, RIGHT, BOTTOM = 60, 16, 16, 44
+LEFT, TOP, RIGHT, BOTTOM = 60, 16, 28, 44
 # By packets, by routes: told apart by dashes, too.
 STYLES = (("packets", 'stroke="#2b6cb0"'), ("routes", 'stroke="#c53030" stroke-dasharray="6 4"'))
 BAR = 34

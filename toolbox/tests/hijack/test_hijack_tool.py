@@ -154,7 +154,7 @@ class Forms(Hijacks):
         # The curve ends at all pairs, on top: each share that occurs is a step.
         points = re.findall(r'<polyline points="(.*?)"', page)[0].split(" ")
         self.assertEqual(len(points), 2 * len(set(captured)) + 2)
-        self.assertEqual(points[-1], "624.0,16.0")
+        self.assertEqual(points[-1], "612.0,16.0")
 
     def test_a_name_that_is_no_page(self):
         path = self.file("<b>&", LINES)
