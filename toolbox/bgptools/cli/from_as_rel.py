@@ -56,23 +56,23 @@ def main(words: Optional[List[str]] = None) -> int:
     digest = hashlib.sha256()
     whole = relations(chosen.file, chosen.most_unpacked, digest)
     graph = Graph(whole, named(chosen.file), digest.hexdigest())
-    return _cone(graph, chosen) if chosen.about else _network(graph, chosen)
+    return _network(graph, chosen) if chosen.about is None else _cone(graph, chosen)
 
 
 def _check_words(chosen: argparse.Namespace) -> None:
     """Raises Mistake where options do not go together."""
     if chosen.core is not None and chosen.core < 2:
         raise Mistake("--core %d: at least 2 are expected" % chosen.core)
-    if chosen.about and (chosen.core is not None or chosen.origins is not None):
+    if chosen.about is not None and (chosen.core is not None or chosen.origins is not None):
         raise Mistake("--about names the origins, and takes the place of --core and --origins: write it without them")
-    if not chosen.about and (chosen.observers is not None or chosen.check is not None):
+    if chosen.about is None and (chosen.observers is not None or chosen.check is not None):
         raise Mistake("--observers and --check go with --about: write --about ORIGINS, too")
     if chosen.check is not None and number(chosen.check) is None:
         raise Mistake("--check %s: a number is expected, 0 to 4294967295" % chosen.check)
 
 
 def _leaks(known: Relations, graph: Graph, chosen: argparse.Namespace) -> List[int]:
-    return asns_of(known, "--leak", chosen.leak, graph.name) if chosen.leak else []
+    return asns_of(known, "--leak", chosen.leak, graph.name) if chosen.leak is not None else []
 
 
 def _network(graph: Graph, chosen: argparse.Namespace) -> int:
@@ -116,7 +116,10 @@ def _kind(chosen: argparse.Namespace) -> Type[Writer]:
 def _is_exact(graph: Graph, interest: Interest, writer: Writer, chosen: argparse.Namespace) -> bool:
     """Whether the program finds the same routes in a larger part; it is told which, or what differs."""
     larger = larger_than(graph, interest, writer.known, _kind(chosen), int(chosen.check))
-    inside, outside = differences(writer, _kind(chosen)(larger, writer.origins, graph.known, interest.leaks))
+    try:
+        inside, outside = differences(writer, _kind(chosen)(larger, writer.origins, graph.known, interest.leaks))
+    except Mistake as mistake:
+        raise Mistake("--check: " + mistake.text, graph.name) from None
     for each in (inside + outside)[:cuts.SHOWN]:
         print("%s: AS %d chooses %s; in the larger part %s" % (
             graph.name, each.asn, "; ".join(each.here) or "none", "; ".join(each.there) or "none"), file=sys.stderr)

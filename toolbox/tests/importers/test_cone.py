@@ -284,8 +284,9 @@ class OnTheProgram(Case):
             origins, observers = lots.sample(known.asns(), 2), lots.sample(known.asns(), 8)
             part, whole = (Writer(each, origins, known) for each in (cone(known, origins, observers), known))
             changes = list(self.changes(part, lots))
-            before, expected, found = (self.tables(self.file("a.bgp", "".join(line + "\n" for line in lines))) for lines in (
-                whole.lines(), whole.lines() + changes, part.lines() + changes))
+            scripts = whole.lines(), whole.lines() + changes, part.lines() + changes
+            before, expected, found = (
+                self.tables(self.file("a.bgp", "".join(line + "\n" for line in lines))) for lines in scripts)
             self.assertEqual(found, {asn: expected[asn] for asn in part.known.asns()})
             changed += sum(before[asn] != expected[asn] for asn in found)
         self.assertGreater(changed, 50)
@@ -404,6 +405,9 @@ class Script(Case):
                 (["--leak", "7"], "%s: --leak 7: AS 7 is not among those of the network" % path),
                 (["--about", "5", "--core", "3"], "--about names the origins, and takes the place of --core and "
                                                   "--origins: write it without them"),
+                (["--about", ""], "%s: --about : AS  is not among those of the network" % path),
+                (["--about", "5", "--observers", "4", "--check", "0"],
+                 "%s: --check: AS 1 is in a loop of providers, or below one, and cannot be decided by itself" % path),
                 (["--observers", "5"], "--observers and --check go with --about: write --about ORIGINS, too"),
                 (["--about", "5", "--check", "x"], "--check x: a number is expected, 0 to 4294967295")):
             ran = inside("from-as-rel", path, *words)

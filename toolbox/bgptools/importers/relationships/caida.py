@@ -220,5 +220,5 @@ def origins_of(known: Relations, wanted: Optional[str], path: str) -> List[int]:
     if wanted == "all":
         return known.asns()
     if wanted is None:
-        return sorted(known.asns(), key=lambda asn: (len(known.customers[asn]), asn))[:10]
+        return sorted(known.asns(), key=lambda asn: (not known.degree(asn), len(known.customers[asn]), asn))[:10]
     return asns_of(known, "--origins", wanted, path)

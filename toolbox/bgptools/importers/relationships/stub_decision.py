@@ -8,6 +8,7 @@ from __future__ import annotations
 
 from typing import Collection, Dict, Iterator, List, Mapping, Optional, Tuple
 
+from ...program.mistakes import Mistake
 from .caida import CUSTOMER, PEER, PROVIDER, PREFERENCES, Relations
 
 # An AS_PATH as the program prints it, the neighbour first; empty for a route of the AS itself.
@@ -40,11 +41,14 @@ def _offers(known: Relations, asn: int, chosen: Mapping[int, Optional[Path]],
 def decisions(known: Relations, chosen: Mapping[int, Optional[Path]],
               leaks: Collection[int] = ()) -> Dict[int, Optional[Path]]:
     """What each AS chooses, where those of a cone chose these: `chosen` has each AS of the cone, with None for no
-    route. ASes are decided behind their providers, which must not be a loop."""
+    route. ASes are decided behind their providers; raises Mistake where these are a loop outside of the cone."""
     found: Dict[int, Optional[Path]] = dict(chosen)
     for asn in downwards(known):
         if asn not in found:
             found[asn] = decision(known, asn, found, leaks)
+    left = min(set(known.customers) - set(found), default=None)
+    if left is not None:
+        raise Mistake("AS %d is in a loop of providers, or below one, and cannot be decided by itself" % left)
     return found
 
 
