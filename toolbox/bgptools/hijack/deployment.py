@@ -4,7 +4,7 @@ from __future__ import annotations
 import re
 from dataclasses import dataclass
 from decimal import Decimal
-from typing import FrozenSet, List
+from typing import FrozenSet, List, Sequence
 
 from ..importers.relationships.caida import Relations
 from ..program.language import number
@@ -34,6 +34,16 @@ def by_degree(known: Relations) -> List[int]:
     return sorted(known.asns(), key=lambda asn: (-known.degree(asn), asn))
 
 
+def sample(asns: Sequence[int], count: int, seed: int) -> List[int]:
+    """So many of some ASes, by R. Durstenfeld's shuffle from the front, which ends there: more of the same seed begin
+    with the same ASes."""
+    left, draw = list(asns), Pcg32(seed, STREAM)
+    for at in range(min(count, len(left))):
+        other = at + draw.below(len(left) - at)
+        left[at], left[other] = left[other], left[at]
+    return left[:count]
+
+
 def deployment_of(known: Relations, option: str, words: str) -> Deployment:
     """The ASes that an option names; raises Mistake for other words, and for an AS that is not in the graph."""
     if not words:
@@ -44,7 +54,7 @@ def deployment_of(known: Relations, option: str, words: str) -> Deployment:
         return Deployment(words, frozenset(by_degree(known)[:int(top.group(1))]))
     if share and Decimal(share.group(1)) <= 1 and number(share.group(2)) is not None:
         count = int(Decimal(share.group(1)) * len(known.customers) + Decimal("0.5"))
-        return Deployment(words, frozenset(Pcg32(int(share.group(2)), STREAM).sample(known.asns(), count)))
+        return Deployment(words, frozenset(sample(known.asns(), count, int(share.group(2)))))
     found = [number(word, 1) for word in words.split(",")]
     if None in found:
         raise Mistake("%s %s: %s" % (option, words, FORMS))

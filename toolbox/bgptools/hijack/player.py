@@ -5,7 +5,7 @@ import re
 from dataclasses import dataclass
 from typing import Dict, List, NamedTuple, Set, Tuple
 
-from ..importers.relationships.caida import MOST_ROUTERS, MOST_SESSIONS, Relations
+from ..importers.relationships.caida import MOST_LINKS, MOST_ROUTERS, MOST_SESSIONS, Relations
 from ..importers.relationships.cone import cone
 from ..program.line_count import check_length
 from ..program.mistakes import Mistake
@@ -51,9 +51,10 @@ def part_of(known: Relations, pair: Pair, is_all: bool) -> Relations:
     cannot hold them."""
     found = cone(known, pair, None if is_all else ())
     advice = ": leave --played all out" if is_all else ""
-    if len(found.customers) > MOST_ROUTERS:
-        raise TooLarge("%d ASes are to be played, and a network has at most %d%s" % (
-            len(found.customers), MOST_ROUTERS, advice))
+    # One router and one link are for what an attacker pretends.
+    if len(found.customers) >= MOST_ROUTERS or len(found.ties) >= MOST_LINKS:
+        raise TooLarge("%d ASes with %d relationships are to be played, and a network has at most %d routers and %d "
+                       "links%s" % (len(found.customers), len(found.ties), MOST_ROUTERS, MOST_LINKS, advice))
     for asn in found.asns():
         if found.degree(asn) + (asn == pair.attacker) > MOST_SESSIONS:
             raise TooLarge("AS %d has %d neighbours among the %d ASes that are to be played, and a router has at most %d "

@@ -24,7 +24,7 @@ def mean_of(shares: Sequence[float]) -> Share:
     As many shares as there are are drawn from them with replacement, 1,000 times. The interval goes from the 25th of
     these means to the 975th. The generator begins anew for each, so the same shares have the same interval."""
     draw, count = Pcg32(len(shares), STREAM), len(shares)
-    means = sorted(sum(map(shares.__getitem__, draw.several_below(count, count))) / count for _ in range(RESAMPLES))
+    means = sorted(sum(shares[draw.below(count)] for _ in range(count)) / count for _ in range(RESAMPLES))
     return Share(sum(shares) / count, means[RESAMPLES // 40 - 1], means[RESAMPLES - RESAMPLES // 40 - 1])
 
 
