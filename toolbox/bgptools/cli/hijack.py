@@ -29,8 +29,8 @@ def parser() -> argparse.ArgumentParser:
         "Lets attackers hijack prefixes of victims in a graph of ASes, each pair on its own, and tells whom each "
         "captures: whose packets to the victim end at the attacker, and whose route leads there. Policies are those of "
         "from-as-rel. The program plays the ASes above victim and attacker; all others follow by one decision each."),
-        epilog="Exit status: 0 nobody is captured; 1 somebody is; 2 a mistake, as a pair that is too large to be played: the "
-               "others are told all the same.")
+        epilog="Exit status: 0 nobody is captured; 1 somebody is; 2 a mistake, as a pair that is too large to be played: "
+               "the others are told all the same.")
     made.add_argument("file", metavar="FILE", help=(
         "the relationships, as of from-as-rel; - is standard input; a name that ends with .gz or .bz2 is unpacked"))
     made.add_argument("--kind", choices=KINDS, required=True, help=(

@@ -57,8 +57,8 @@ def part_of(known: Relations, pair: Pair, is_all: bool) -> Relations:
                        "links%s" % (len(found.customers), len(found.ties), MOST_ROUTERS, MOST_LINKS, advice))
     for asn in found.asns():
         if found.degree(asn) + (asn == pair.attacker) > MOST_SESSIONS:
-            raise TooLarge("AS %d has %d neighbours among the %d ASes that are to be played, and a router has at most %d "
-                           "sessions%s" % (asn, found.degree(asn), len(found.customers), MOST_SESSIONS, advice))
+            raise TooLarge("AS %d has %d neighbours among the %d ASes that are to be played, and a router has at most "
+                           "%d sessions%s" % (asn, found.degree(asn), len(found.customers), MOST_SESSIONS, advice))
     return found
 
 

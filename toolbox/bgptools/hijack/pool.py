@@ -21,8 +21,8 @@ class LocalPool(ProcessPool[int]):
 
 
 def play_here(study: Study, known: Results, count: int) -> None:
-    """Plays what is not known, by so many processes of this machine, keeps each result as it comes, and tells how far it
-    is. Raises Mistake where one worker after another dies of a pair; what is known by then is kept."""
+    """Plays what is not known, by so many processes of this machine, keeps each result as it comes, and tells how far
+    it is. Raises Mistake where one worker after another dies of a pair; what is known by then is kept."""
     left: List[int] = [number for number in reversed(range(len(study.pairs))) if number not in known.known]
     if not left:
         return

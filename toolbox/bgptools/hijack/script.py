@@ -21,8 +21,8 @@ class Filtering(Marking):
     """The script, with the import policies of ASes that filter. One is made for a graph, and writes parts of it.
 
     Origin validation knows what the victim registered, the prefix with no longer one and its own AS, and no attacker. A
-    rule asks one thing, so three stand in this order: longer prefixes are denied; a path with the victim in it is taken;
-    any other route to the prefix is denied. A path in which the victim stands before another AS would pass. None of the
+    rule asks one thing, so three stand in this order: longer prefixes are denied; a path with the victim is taken; any
+    other route to the prefix is denied. A path in which the victim stands before another AS would pass. None of the
     hijacks here has such a path: the victim prefers its own route to any other one to its prefix.
 
     A peerlock denies from customers each path with an AS that has customers and no provider."""

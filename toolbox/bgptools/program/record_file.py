@@ -14,7 +14,7 @@ from .provenance import UNKNOWN, Provenance
 class RecordFile:
     """Results that are kept in a file, or in none where `path` is None.
 
-    Its first line says of what it is, by the word `what`, as `sweep`, by `about`, a digest, and which program played it.
+    Its first line says of what it is, by the word `what`, as `sweep`, by `about`, a digest, and which program played.
     `more` stands there for a reader. `read` is called with each further line. Mistake where the file is of something
     else, which `others` describes, or of another program, or is there and not to be gone on with."""
 
