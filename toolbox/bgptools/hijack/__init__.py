@@ -2,7 +2,7 @@
 
 `pairs` reads or draws the pairs, `deployment` says which ASes filter. `attack` has the kinds of hijack as commands,
 `script` the network with filters, `player` plays a pair on the cone of the two. `descent` decides what is below, and
-`forwarding` follows packets. `study` puts it together, `pool` works by processes, `results_file` keeps each result.
-`table`, `statistics` and `page` show them.
+`outcome` says who is captured. `study` puts it together, `pool` works by processes, `results_file` keeps each result.
+`table`, `statistics`, `plots` and `page` show them.
 
 The tool `hijack` calls this."""

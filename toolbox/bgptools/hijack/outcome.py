@@ -11,7 +11,7 @@ from .pairs import Pair
 from .player import Choices, Played
 
 # Where a route leads, or packets end: nowhere, at the victim, at the attacker.
-ENDS = NOWHERE, VICTIM, ATTACKER = range(3)
+NOWHERE, VICTIM, ATTACKER = range(3)
 # A label has both: where the route of an AS leads three times, and where its packets end.
 LABELS = range(9)
 AS_IT_IS = tuple(LABELS)

@@ -10,7 +10,7 @@ from ..importers.relationships.cone import cone
 from ..program.line_count import check_length
 from ..program.mistakes import Mistake
 from ..program.process import Program
-from .attack import FORGED, HALVES, LEAK, PREFIX, PRETENDED, opening, pretended
+from .attack import HALVES, LEAK, PREFIX, PRETENDED, opening, pretended
 from .pairs import Pair
 from .script import Filtering
 
