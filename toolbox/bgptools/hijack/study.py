@@ -8,7 +8,7 @@ from typing import List, Optional
 
 from .. import __version__
 from ..importers.relationships.caida import Relations
-from .attack import LEAK, LONGER, SAME
+from .attack import LONGER, SAME
 from .deployment import Deployment
 from .descent import Below
 from .outcome import Outcome, outcome_of
