@@ -7,7 +7,8 @@ from typing import Any, Dict, FrozenSet, List, Set, Tuple
 
 from ..change.comparison import Difference
 from ..network.configuration import Network
-from .families import SINGLE, Trial
+from ..program.language import by_address, by_prefix, contains
+from .families import HIJACK, SINGLE, Trial
 
 # The numbers of a router: prefixes moved, lost and gained, and packets of it that are lost now.
 Cell = List[int]
@@ -18,11 +19,13 @@ KINDS = {"moved": MOVED, "lost": LOST, "gained": GAINED}
 @dataclass
 class Figures:
     """What a change does. `routes` has the numbers of each router with any; `down` counts sessions, `told` external
-    neighbours that are told otherwise; `packets` go another way, `black_holes` and `loops` among them. `is_single` says
+    neighbours that are told otherwise; `packets` go another way, `black_holes` and `loops` among them; `captured` counts
+    the ASes whose packets a hijack leads to the hijacker. `is_single` says
     that one failure takes from others what was not the failed router's own. `state` tells the routes of all routers
     apart from others, of a random order. `text` is what what-if tells; `mistake` why it tells nothing. `is_lost` says
     that what tried it died each time: it may be tried again."""
     moved: int = 0
+    captured: int = 0
     lost: int = 0
     gained: int = 0
     black_holes: int = 0
@@ -51,7 +54,7 @@ class Figures:
     def rank(self) -> Tuple[int, ...]:
         """Orders changes, the worst first: single points of failure, then what does not converge, then by how much."""
         return (not self.mistake, not self.is_single, self.is_converged, -self.black_holes - self.loops, -self.lost,
-                -self.moved, -len(self.told), -self.gained, -self.packets, -self.messages)
+                -self.captured, -self.moved, -len(self.told), -self.gained, -self.packets, -self.messages)
 
 
 def figures_of(difference: Difference, messages: int, is_converged: bool) -> Figures:
@@ -67,6 +70,18 @@ def figures_of(difference: Difference, messages: int, is_converged: bool) -> Fig
     found.moved, found.lost, found.gained = (sum(cell[kind] for cell in found.routes.values())
                                              for kind in (MOVED, LOST, GAINED))
     return found
+
+
+def captured_by(trial: Trial, network: Network, difference: Difference) -> int:
+    """The ASes of which some packets end at the hijacker's router now, but its own; none where the change is no hijack.
+
+    All packets to the hijacked prefix that end there do so since the hijack: nothing in that AS originated it."""
+    if trial.kind != HIJACK or not trial.lines:
+        return 0
+    _, router, to = trial.lines[0].words
+    asns = {network.nodes[way.router].asn for way in difference.ways if way.after.end == "reached"
+            and way.after.place == router and contains(by_prefix(to), (by_address(way.address), 32))}
+    return len(asns - {network.nodes[router].asn})
 
 
 def is_single_point(trial: Trial, before: Network, fed: Set[str], difference: Difference) -> bool:
@@ -93,7 +108,7 @@ def together(parts: List[Figures]) -> Figures:
         return parts[0]
     found = Figures(is_converged=all(part.is_converged for part in parts), is_single=any(part.is_single for part in parts),
                     down=max(part.down for part in parts))
-    for name in ("moved", "lost", "gained", "black_holes", "loops", "packets", "messages"):
+    for name in ("moved", "captured", "lost", "gained", "black_holes", "loops", "packets", "messages"):
         setattr(found, name, sum(getattr(part, name) for part in parts))
     found.told = sorted({way for part in parts for way in part.told})
     for router, cell in (item for part in parts for item in part.routes.items()):

@@ -1,103 +1,33 @@
-"""A file of results: each stands there as a line of JSON as soon as it is known, once and whole; a run can go on."""
+"""The results of a sweep: each is kept as soon as it is known, and a run can go on."""
 from __future__ import annotations
 
-import fcntl
-import json
-import os
-import sys
 from typing import Any, Dict, Optional, Tuple
 
-from ..program.mistakes import Mistake
-from ..program.provenance import UNKNOWN, Provenance
+from ..program.provenance import Provenance
+from ..program.record_file import RecordFile
 from .effect_counts import Figures
 
 # A part of the network, and a change.
 Task = Tuple[int, int]
+OTHERS = "of another script, other changes or other words"
 
 
-class Results:
-    """What is known of each task. With a path it is kept in that file, whose first line says what the sweep is of, by
-    `about`, a digest, and which program played it. Mistake where the file is one of another sweep or another program,
-    or is there and not to be gone on with."""
+class Results(RecordFile):
+    """What is known of each task. With a path it is kept in that file."""
 
     def __init__(self, path: Optional[str], about: str, is_resumed: bool, program: Provenance) -> None:
         self.known: Dict[Task, Figures] = {}
-        self.path = path
-        self.head: Dict[str, Any] = {"sweep": 1, "about": about, "program": program.as_json()}
-        self.file = -1 if path is None else self._opened(path, is_resumed)
-        if self.file >= 0:
-            self._begin()
+        super().__init__(path, "sweep", OTHERS, about, is_resumed, program)
 
-    def _opened(self, path: str, is_resumed: bool) -> int:
-        try:
-            file = os.open(path, os.O_RDWR | os.O_CREAT | (0 if is_resumed else os.O_EXCL), 0o666)
-            fcntl.lockf(file, fcntl.LOCK_EX | fcntl.LOCK_NB)
-            return file
-        except FileExistsError:
-            raise Mistake("it is there already: --resume goes on with it", path) from None
-        except (BlockingIOError, PermissionError) as error:
-            raise Mistake("it cannot be written, or another sweep writes it: %s" % error.strerror, path) from None
-        except (OSError, ValueError) as error:
-            raise Mistake("it cannot be written: %s" % (getattr(error, "strerror", None) or error), path) from None
-
-    def _begin(self) -> None:
-        """Reads what is there, and cuts off a last line that was not written to its end."""
-        with open(self.file, "rb", closefd=False) as read:
-            content = read.read()
-        whole = content[:content.rfind(b"\n") + 1]
-        lines = whole.split(b"\n")[:-1]
-        for number, line in enumerate(lines, 1):
-            self._take(number, line)
-        if not lines and content and not self._line(self.head).startswith(content):
-            raise Mistake("no file of a sweep", self.path)
-        if len(content) > len(whole):
-            os.ftruncate(self.file, len(whole))
-            print("%s: its last line was not whole, and was taken away" % self.path, file=sys.stderr)
-        os.lseek(self.file, 0, os.SEEK_END)
-        if not lines:
-            self._write(self.head)
-
-    def _take(self, number: int, line: bytes) -> None:
-        try:
-            found = json.loads(line)
-            if number == 1:
-                self._check(found)
-            else:
-                task = (found.pop("part"), found.pop("change"))
-                self.known.setdefault(task, Figures(**found))
-        except (ValueError, TypeError, KeyError, AttributeError):
-            raise Mistake("no line of a sweep's results", self.path, number) from None
-
-    def _check(self, found: Dict[str, Any]) -> None:
-        """Takes the first line of a file of results. Programs of one digest are the same, whatever their commits."""
-        if any(found.get(name) != self.head[name] for name in ("sweep", "about")):
-            raise Mistake("it has the results of another sweep: of another script, other changes or other words",
-                          self.path, 1)
-        there, here = (each.get("digest", UNKNOWN) for each in (found.get("program", {}), self.head["program"]))
-        if there != here or here == UNKNOWN:
-            raise Mistake("it has the results of another program, of digest %s, and this one has %s: "
-                          "name that program by PROGRAM=, or begin another file" % (there, here), self.path, 1)
+    def read(self, found: Dict[str, Any]) -> None:
+        """Takes a result that was kept."""
+        task = (found.pop("part"), found.pop("change"))
+        self.known.setdefault(task, Figures(**found))
 
     def add(self, task: Task, figures: Figures) -> None:
         """A result. One that is known already is left as it is. One that was lost is not kept: a run that goes on tries
         it again."""
         if task not in self.known:
             self.known[task] = figures
-            if self.file >= 0 and not figures.is_lost:
-                self._write({"part": task[0], "change": task[1], **figures.as_json()})
-
-    @staticmethod
-    def _line(value: Dict[str, Any]) -> bytes:
-        return (json.dumps(value) + "\n").encode()
-
-    def _write(self, value: Dict[str, Any]) -> None:
-        try:
-            left = self._line(value)
-            while left:
-                left = left[os.write(self.file, left):]
-        except OSError as error:
-            raise Mistake("it cannot be written: %s" % error.strerror, self.path) from None
-
-    def close(self) -> None:
-        if self.file >= 0:
-            os.close(self.file)
+            if not figures.is_lost:
+                self.write({"part": task[0], "change": task[1], **figures.as_json()})

@@ -10,6 +10,7 @@ from ..program.progress import Clock
 from .effect_counts import Figures, together
 from .effect_file import Results, Task
 from .player import Job
+from .table import NUMBERS
 
 
 class Executor(Protocol):
@@ -41,7 +42,7 @@ def gather(executor: Executor, jobs: List[Job], known: Results) -> None:
 
 def about(jobs: List[Job]) -> str:
     """What tells a sweep from others, as a digest: scripts, changes and words."""
-    told = [__version__, [[line.text for line in job.script] for job in jobs], jobs[0].has_texts,
+    told = [__version__, NUMBERS, [[line.text for line in job.script] for job in jobs], jobs[0].has_texts,
             [jobs[0].chosen.order, jobs[0].chosen.most],
             [[trial.kind, trial.title, trial.seed, [line.text for line in trial.lines]]
              for job in jobs for trial in job.trials]]

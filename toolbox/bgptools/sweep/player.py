@@ -28,7 +28,7 @@ from ..program.process import ProgramEnded
 from ..program.process_pool import ATTEMPTS
 from ..program.replies import refusal, routes
 from ..program.script import Line
-from .effect_counts import Figures, figures_of, is_single_point
+from .effect_counts import Figures, captured_by, figures_of, is_single_point
 from .families import ORDER, Trial
 
 DOWN, UP = {"fail", "stop"}, {"mend", "start"}
@@ -79,6 +79,7 @@ class Attempt:
         after = After(self.run, self.quiet, self.touched)
         difference = compare(self.quiet, after, [], after.packets, has_reasons=bool(self.watch))
         found = figures_of(difference, len(self.done.taken), self.done.is_converged)
+        found.captured = captured_by(self.trial, self.run.network, difference)
         fed = {to for _, to in self.quiet.feeds}
         found.is_single = is_single_point(self.trial, self.quiet.network, fed, difference)
         if self.watch:

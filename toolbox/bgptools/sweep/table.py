@@ -14,8 +14,8 @@ from .effect_counts import Figures
 from .families import ORDER, Trial
 
 Row = Tuple[Trial, Figures]
-NUMBERS = ("lost", "black_holes", "loops", "moved", "gained", "told", "down", "messages")
-TITLES = ("lost", "black holes", "loops", "moved", "gained", "told", "down", "messages")
+NUMBERS = ("lost", "black_holes", "loops", "moved", "captured", "gained", "told", "down", "messages")
+TITLES = ("lost", "black holes", "loops", "moved", "captured", "gained", "told", "down", "messages")
 
 
 class Table:

@@ -62,7 +62,7 @@ class Json(Case):
         return found
 
     def test_each_schema_is_one_of_a_tool_or_of_values(self):
-        tools = ("explain", "play", "converge", "sweep", "timeline", "what-if")
+        tools = ("explain", "play", "converge", "hijack", "sweep", "timeline", "what-if")
         self.assertEqual(set(self.judges), {"language.json", "request.json", "values.json"} | {name + ".json" for name in tools})
 
     def test_a_schema_refuses_what_it_does_not_name(self):
@@ -232,6 +232,14 @@ class Json(Case):
         found = self.told("sweep", DISAGREE, "--orders", 6, "--jobs", 1, status=1)
         self.assertEqual(sum(len(state["orders"]) for state in found["states"]),
                          sum(row["converged"] for row in found["changes"]))
+
+    def test_a_hijack(self):
+        graph = LESSONS / "relationships.txt"
+        for words in ((), ("--rov", "top:1", "--peerlock", "2")):
+            found = self.told("hijack", graph, "--kind", "leak", "--count", 3, "--jobs", 1, *words, status=1)
+            self.assertEqual((len(found["pairs"]), found["ases"], found["seed"]), (3, 4, 1))
+            self.assertEqual([(tier["tier"], tier["pairs"]) for tier in found["tiers"]], [("stub", 3)])
+            self.assertEqual(found["rov"], {"words": "top:1", "ases": 1} if words else None)
 
     def test_mistakes_stand_beside_the_documents(self):
         for name, words, told in (

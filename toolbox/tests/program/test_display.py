@@ -159,7 +159,7 @@ class Tables(Case):
         made = []
         for width in (80, 200):
             grid, file = rich.table.Table(box=None), io.StringIO()
-            for title in ("change", "lost", "black holes", "loops", "moved", "gained", "told", "down", "messages"):
+            for title in ("change", "lost", "black holes", "loops", "moved", "captured", "gained", "told", "down", "messages"):
                 grid.add_column(title, min_width=len(title), overflow="fold")
             grid.add_row(self.TITLE, *"44000013")
             rich.console.Console(file=file, width=width).print(grid)

@@ -250,6 +250,21 @@ class Figures(Case):
         self.assertEqual({row["lost"] for row in rows if row["kind"] == "router" and not row["single_point"]}, {6})
         self.assertEqual(told.returncode, 1)
 
+    def test_whom_a_hijack_captures(self):
+        """A row of ASes 1 to 6, of which AS 5 has two routers. AS 1 has the prefix. AS 5 hears AS 6 at one router, and
+        tells the other one; AS 4 follows it, AS 3 is as near to both, and stays with AS 2, the lower address. Of the
+        half of the prefix all follow the hijacker. So AS 5 is counted once, and what moved is counted by routers."""
+        row = [("1.0.0.1", 1), ("2.0.0.1", 2), ("3.0.0.1", 3), ("4.0.0.1", 4), ("5.0.0.1", 5), ("5.0.0.2", 5), ("6.0.0.1", 6)]
+        text = "".join("router %s %d\n" % each for each in row)
+        text += "".join("link %s %s 1\njoin %s %s\n" % (one, other, one, other) for (one, _), (other, _) in zip(row, row[1:]))
+        base = self.file("base", text + "origin 1.0.0.1 10.0.0.0/8\norigin 1.0.0.1 20.0.0.0/8\n")
+        for words in ((), ("--by-prefix", 1)):
+            told = json.loads(inside("sweep", base, "--hijack", "10.0.0.0/8", "--hijack", "10.0.0.0/9", "--fail-links", "--json", *words).stdout)
+            rows = {row["change"]: (row["captured"], row["moved"], row["gained"]) for row in told["changes"]}
+            self.assertEqual(rows["hijack of 10.0.0.0/8 by AS 6 at 6.0.0.1"], (2, 4, 0))
+            self.assertEqual(rows["hijack of 10.0.0.0/9 by AS 6 at 6.0.0.1"], (5, 0, 7))
+            self.assertEqual({row["captured"] for row in told["changes"] if row["kind"] == "link"}, {0})
+
     def test_forms(self):
         told = {form: inside("sweep", MANY, "--fail-links", "--fail-sessions", *form).stdout
                 for form in ((), ("--csv",), ("--json",))}
