@@ -261,6 +261,11 @@ class Malicious(Study):
         sparse = tarfile.TarInfo("three/sparse")
         sparse.type = tarfile.GNUTYPE_SPARSE
         self.refused("`three/sparse` is no plain file", gzip.compress(sparse.tobuf(tarfile.GNU_FORMAT) + bytes(1024)))
+        # A plain file of one byte, of which a header of POSIX makes three million.
+        sparse.type, sparse.size = tarfile.REGTYPE, 1
+        sparse.pax_headers = {"GNU.sparse.map": "0,1", "GNU.sparse.size": "3000000"}
+        self.refused("`three/sparse` is no plain file", gzip.compress(
+            sparse.tobuf(tarfile.PAX_FORMAT) + b"x" + bytes(511) + bytes(1024)), "--most-unpacked", "1M")
 
     def test_what_is_no_archive(self):
         for content in (b"", b"text\n", gzip.compress(b"text\n"), gzip.compress(bytes(1024)), gzip.compress(b"x" * 600)[:-9]):
