@@ -262,4 +262,6 @@ class Cluster:
             for future in self.busy:
                 future.release()
             if self.lanes and self.client.status == "running":
-                self.client.run(end_there, self.sweep, workers=list(self.lanes))
+                # (one that has gone since then would be waited for)
+                there = self.client.nthreads()
+                self.client.run(end_there, self.sweep, workers=[worker for worker in self.lanes if worker in there])
