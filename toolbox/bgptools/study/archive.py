@@ -1,4 +1,4 @@
-"""Archives of studies, .tar.gz: the same files make the same bytes; of foreign ones nothing but plain files is taken."""
+"""Archives of studies, .tar.gz: the same files make the same bytes; of others, plain files alone are taken."""
 from __future__ import annotations
 
 import gzip
@@ -62,8 +62,8 @@ def unpacked(path: str, most: int) -> Tuple[str, Dict[str, bytes]]:
                 top, name = _place(member, path)
                 tops.add(top)
                 if name in found or len(tops) > 1 or len(found) == MOST_FILES:
-                    raise Mistake("`%s/%s`: at most %d files are expected, each once, in one folder" % (top, name, MOST_FILES),
-                                  path)
+                    raise Mistake("`%s/%s`: at most %d files are expected, each once, in one folder" % (
+                        top, name, MOST_FILES), path)
                 content = archive.extractfile(member)
                 found[name] = content.read() if content else b""
     except FAULTS as error:

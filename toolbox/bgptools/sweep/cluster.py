@@ -64,8 +64,8 @@ def play_by(address: str, program: Optional[str], jobs: List[Job], known: Result
         version = _check_versions(client, address, program)
         gather(Cluster(dask, client, "--scheduler " + address, Call("", 0, 0, version, program, 1), jobs), jobs, known)
     except (Gone, *LOST) as fault:
-        raise Mistake("--scheduler %s: %s: %s" % (address, fault if isinstance(fault, Gone) else "the scheduler has gone",
-                                                  _kept(jobs, known))) from None
+        why = str(fault) if isinstance(fault, Gone) else "the scheduler has gone"
+        raise Mistake("--scheduler %s: %s: %s" % (address, why, _kept(jobs, known))) from None
     finally:
         with contextlib.suppress(dask.TimeoutError, *CLOSED):
             client.close(timeout=CLOSING)
@@ -219,7 +219,7 @@ class Cluster:
         return self._replied(reply, lane)
 
     def _replied(self, reply: Reply, lane: Lane) -> List[Tuple[Task, Figures]]:
-        """What the worker of a lane replied: its figures, or that the task is for another worker, or to be sent whole."""
+        """What the worker of a lane replied: figures, or that the task is for another one, or to be sent whole."""
         task, lane.task = lane.task, None
         assert task
         if reply.figures is not None:
