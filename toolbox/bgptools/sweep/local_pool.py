@@ -59,6 +59,14 @@ class Plan:
             del self.left[part]
         return task
 
+    def give_back(self, task: Task) -> None:
+        """A task that was chosen is not done: it is the next of its part."""
+        self.left.setdefault(task[0], deque()).appendleft(task)
+
+    def leave(self, worker: int) -> None:
+        """A worker takes no more tasks: its part is free for another one."""
+        self.at.pop(worker, None)
+
 
 class Pool:
     """So many processes of this machine, as `gather` wants them."""
