@@ -1,5 +1,6 @@
 pub mod Reaching
 pub mod Counting
 pub mod Places
+mod Snapshots
 mod Quiet
 mod InQueues

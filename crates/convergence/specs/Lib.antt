@@ -1,3 +1,4 @@
 pub mod Waiting
 pub mod Deliveries
 pub mod Places
+pub mod Kept

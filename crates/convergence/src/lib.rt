@@ -2,10 +2,12 @@
 #![tactic(auto)]
 
 mod by_router;
+mod copying;
 mod delivery;
 mod ending;
 mod engine;
 mod fair;
+mod keeping;
 mod laws;
 mod order;
 mod random;
@@ -13,8 +15,10 @@ mod reached;
 mod run;
 mod waiting;
 
+pub use copying::Copying;
 pub use delivery::{Delivery, Tally};
 pub use ending::{Advance, Convergence, Ending};
+pub use keeping::Keeping;
 pub use laws::waiting_is_taken;
 pub use order::Order;
 pub use reached::Reached;

@@ -5,6 +5,7 @@ ghost use Rattle.reference_machine.specs.Machine.{nothing, IsStep};
 ghost use Rattle.convergence.specs.Waiting.{on_way, queued_of, waits, IsNextWaiting, IsReached};
 ghost use Rattle.convergence.specs.Deliveries.{AreTaken};
 
+use crate::copying::Copying;
 use crate::delivery::Delivery;
 use crate::waiting::{Queued, Waiting};
 use net_conf::SiteSession;
@@ -61,6 +62,16 @@ impl<M: Machine> Machine for Reached<M> {
 
     fn step<R: Threads + Sync>(&mut self, rt: &R, event: &Event) -> Reply {
         self.take(rt, event)
+    }
+}
+
+impl<M: Copying> Reached<M> {
+    /// The same network once more. The error is that there is no memory.
+    pub(crate) fn copy(&self) -> Result<Self, AllocError>
+        ensures { IfOk result (λ copy. copy ≡ self.now) }
+    {
+        let machine = self.machine.copy()?;
+        Ok(Reached { machine })
     }
 }
 
