@@ -7,6 +7,7 @@ use Rattle.clap.specs.declared.error.kind.ErrorKind.{ErrorKind}
 use Rattle.clap.specs.declared.error.kind.ErrorKind.TheVariants.{OutOfMemory, DisplayHelp, DisplayVersion}
 use Rattle.watched.specs.Streams.{Reading, Writing}
 use Rattle.reference_machine.specs.Network.{Network}
+use Rattle.convergence.specs.Kept.{Kept}
 use Rattle.reply_text.specs.declared.ending.RunFault.{RunFault}
 use Rattle.reply_text.specs.declared.ending.RunFault.TheVariants.{NoMemory, Unwritten}
 use Rattle.reply_text.specs.Ending.{success, mistaken, fault_status, fault_text, IsTold}
@@ -59,7 +60,7 @@ IsServed i o errors status i' o' errors' = IsSentOn o' × (end : Network)
 
 -- the same of a script in which messages may be delivered until none waits
 abbrev pub IsServedByConverge : Reading → Writing → Writing → ℕ → Reading → Writing → Writing → Type 0
-IsServedByConverge i o errors status i' o' errors' = IsSentOn o' × (end : Network)
+IsServedByConverge i o errors status i' o' errors' = IsSentOn o' × (end : Kept)
     × IsConvergeRun i.remaining o errors status end i' o' errors'
 
 -- a log was replayed; what it was found to be was sent on

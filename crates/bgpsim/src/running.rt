@@ -11,7 +11,7 @@ use cell_engine::Cell;
 use clap::Error;
 use clap::error::ErrorKind;
 use command_line::{Choice, Team, choose};
-use converge_text::{Reached, run_converge};
+use converge_text::{Keeping, Reached, run_converge};
 use log_replay::run_replay;
 use prefix_table::{SortedTable, TrieTable};
 use reply_text::{MISTAKEN, RunFault, SUCCESS, end_by};
@@ -185,7 +185,7 @@ fn serve_converge<R: Source, W: Sink, E: Sink>(
     let alloc = rt.alloc();
     let buffer = LineBuffer::new(alloc)?;
     let engine: Engine = Sim::new(alloc, drawn_keys(rt));
-    let mut machine = Reached::new(engine);
+    let mut machine = Keeping::new(alloc, Reached::new(engine));
     let status = run_converge(
         rt,
         alloc,

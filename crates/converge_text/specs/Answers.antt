@@ -1,11 +1,12 @@
 -- What a line is answered where messages may be delivered until none waits (own).
-use Rattle.std.specs.Prelude.{◌≡◌, ◌⊎◌, ℕ, ◌≤◌, Bool, true, false, List, [], ◌∷◌, ◌++◌, codes, length, min, Option, Some, None}
+use Rattle.std.specs.Prelude.{◌≡◌, ◌⊎◌, ℕ, ◌<◌, ◌≤◌, Bool, true, false, List, [], ◌∷◌, ◌++◌, codes, length, min, Option, Some, None}
 use Rattle.std.specs.Fmt.{decimal}
 use Rattle.std.specs.List.{flat_map}
 use Rattle.net_prefix.specs.declared.addr.Addr.{Addr}
 use Rattle.net_prefix.specs.Address.{addr_text}
 use Rattle.net_prefix.specs.Prefix.{prefix_text}
 use Rattle.net_conf.specs.declared.refusal.Refusal.TheVariants.{Memory}
+use Rattle.sim_event.specs.declared.reply.Reply.TheVariants.{Done}
 use Rattle.reference_machine.specs.Network.{Network}
 use Rattle.reply_text.specs.Replies.{line_end, end_line, reply_text, refusal_text}
 use Rattle.convergence.specs.declared.delivery.Delivery.{Delivery}
@@ -14,10 +15,11 @@ use Rattle.convergence.specs.declared.ending.Ending.{Ending}
 use Rattle.convergence.specs.declared.ending.Ending.TheVariants.{Converged, Limit, OutOfMemory}
 use Rattle.convergence.specs.declared.waiting.Queued.{Queued}
 use Rattle.convergence.specs.Waiting.{on_way, queued_of, IsNextWaiting}
+use Rattle.convergence.specs.Kept.{Kept, with_snapshot, IsRestored}
 use Rattle.convergence.specs.Deliveries.{reply_of, tally_of, AreTaken, EndsBy}
 use Rattle.sim_text.specs.Serving.{IsAnswer as IsCommandAnswer}
 use Rattle.converge_text.specs.declared.request.Request.{Request}
-use Rattle.converge_text.specs.declared.request.Request.TheVariants.{Converge as Deliveries, Waiting}
+use Rattle.converge_text.specs.declared.request.Request.TheVariants.{Converge as Deliveries, Waiting, Snapshot, Restore}
 use Rattle.converge_text.specs.Requests.{Asks, most_of}
 
 -- DELIVERIES
@@ -83,14 +85,37 @@ abbrev pub AreListed : Network → List ℕ → Type 0
 AreListed s text = (ds : List (Addr × Addr)) × AreWaiting s None ds
     × (text ≡ flat_map (waiting_line s) ds ++ end_line (count_of ds))
 
+-- SNAPSHOTS
+
+-- words, and a number behind them
+unfoldable pub numbered_text : List ℕ → ℕ → List ℕ
+numbered_text words n = words ++ decimal n ++ line_end
+
+-- the network is kept, and it is said how many are; or there was no memory for that, and nothing has changed
+abbrev pub IsSnapshotReply : Kept → List ℕ → Kept → Type 0
+IsSnapshotReply s text s' =
+    ((s' ≡ with_snapshot s) × (text ≡ numbered_text (codes "snapshot ") (length s'.snapshots)))
+    ⊎ ((text ≡ refusal_text Memory) × (s' ≡ s))
+
+-- the network that was kept as this number, from 1 on, is there again; or none is kept so, and nothing has changed
+abbrev pub IsRestoreReply : ℕ → Kept → List ℕ → Kept → Type 0
+IsRestoreReply n s text s' =
+    (IsRestored n s s' × (text ≡ reply_text Done))
+    ⊎ (((n ≡ 0) ⊎ (length s.snapshots < n)) × (text ≡ numbered_text (codes "no snapshot ") n) × (s' ≡ s))
+
 -- LINES
 
-abbrev pub IsReplyTo : Request → Network → List ℕ → Network → Type 0
-IsReplyTo (Deliveries asked) s text s' = AreDelivered s (most_of asked.most) asked.echo text s'
-IsReplyTo Waiting s text s' = AreListed s text × (s' ≡ s)
+-- the network is what each speaks of; the snapshots stay, but where they are asked for
+abbrev pub IsReplyTo : Request → Kept → List ℕ → Kept → Type 0
+IsReplyTo (Deliveries asked) s text s' = AreDelivered s.network (most_of asked.most) asked.echo text s'.network
+    × (s'.snapshots ≡ s.snapshots)
+IsReplyTo Waiting s text s' = AreListed s.network text × (s' ≡ s)
+IsReplyTo Snapshot s text s' = IsSnapshotReply s text s'
+IsReplyTo (Restore n) s text s' = IsRestoreReply n s text s'
 
--- a line that asks for deliveries, or where messages wait, is answered so; any other is answered as a command
-abbrev pub IsAnswer : Network → List ℕ → List ℕ → Network → Type 0
+-- a line that asks for one of these is answered so; any other is answered as a command
+abbrev pub IsAnswer : Kept → List ℕ → List ℕ → Kept → Type 0
 IsAnswer s line text s' =
     ((request : Request) × Asks line request × IsReplyTo request s text s')
-    ⊎ (((request : Request) → Asks line request → ⊥) × IsCommandAnswer s line text s')
+    ⊎ (((request : Request) → Asks line request → ⊥) × IsCommandAnswer s.network line text s'.network
+    × (s'.snapshots ≡ s.snapshots))

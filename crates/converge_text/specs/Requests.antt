@@ -6,7 +6,7 @@ use Rattle.convergence.specs.declared.order.Order.{Order}
 use Rattle.convergence.specs.declared.order.Order.TheVariants.{Fair, Router, Random}
 use Rattle.converge_text.specs.declared.request.Converge.{Converge}
 use Rattle.converge_text.specs.declared.request.Request.{Request}
-use Rattle.converge_text.specs.declared.request.Request.TheVariants.{Converge as Deliveries, Waiting}
+use Rattle.converge_text.specs.declared.request.Request.TheVariants.{Converge as Deliveries, Waiting, Snapshot, Restore}
 
 -- THEIR WORDS
 
@@ -34,6 +34,8 @@ converge_words asked = maybe_order_words asked.order ++ (most_words asked.most +
 abbrev pub words_of : Request → List (List ℕ)
 words_of (Deliveries asked) = codes "converge" ∷ converge_words asked
 words_of Waiting = codes "waiting" ∷ []
+words_of Snapshot = codes "snapshot" ∷ []
+words_of (Restore n) = codes "restore" ∷ decimal n ∷ []
 
 -- a number is below 2^32
 abbrev pub IsOrder : Order → Type 0
@@ -50,6 +52,8 @@ IsConverge asked = IfSome asked.order IsOrder × IsMost asked.most
 abbrev pub IsRequest : Request → Type 0
 IsRequest (Deliveries asked) = IsConverge asked
 IsRequest Waiting = Unit
+IsRequest Snapshot = Unit
+IsRequest (Restore n) = n < 2 ^ 32
 
 -- a line that is not too long, and whose words ask for this
 abbrev pub Asks : List ℕ → Request → Type 0

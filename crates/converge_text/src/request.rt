@@ -1,6 +1,6 @@
 //! The lines that are no commands, and what they ask for.
 
-ghost use Rattle.std.specs.Prelude.{◌≡◌, ◌↔◌, ◌<◌, ◌^◌, ◌∷◌, ◌++◌, ℕ, Bool, List, Option, IfSome, IsSomeAnd, IsTrue, Some, codes};
+ghost use Rattle.std.specs.Prelude.{◌≡◌, ◌↔◌, ◌<◌, ◌^◌, [], ◌∷◌, ◌++◌, ℕ, Bool, List, Option, IfSome, IsSomeAnd, IsTrue, Some, codes};
 ghost use Rattle.std.specs.Fmt.{decimal};
 ghost use Rattle.command_text.specs.Lines.{tokens};
 ghost use Rattle.convergence.specs.declared.order.Order.{Order};
@@ -20,6 +20,10 @@ pub enum Request {
     Converge(Converge),
     /// Where messages wait.
     Waiting,
+    /// To keep the network as it is.
+    Snapshot,
+    /// To take back the network that was kept as this number.
+    Restore(u32),
 }
 
 /// The deliveries that are asked for.
@@ -45,8 +49,14 @@ pub(crate) fn read_request(line: &[u8]) -> Option<Request>
     if is_converge(first) {
         return Some(Request::Converge(read_converge(rest)?));
     }
+    if is_restore(first) {
+        return Some(Request::Restore(read_number(rest)?));
+    }
     if is_waiting(first) && is_blank(rest) {
         return Some(Request::Waiting);
+    }
+    if is_snapshot(first) && is_blank(rest) {
+        return Some(Request::Snapshot);
     }
     None
 }
@@ -63,6 +73,32 @@ fn is_waiting(word: &[u8]) -> bool
     ensures { IsTrue result ↔ (word.now ≡ codes "waiting") }
 {
     matches!(word, b"waiting")
+}
+
+/// Whether the word asks for a snapshot.
+fn is_snapshot(word: &[u8]) -> bool
+    ensures { IsTrue result ↔ (word.now ≡ codes "snapshot") }
+{
+    matches!(word, b"snapshot")
+}
+
+/// Whether the word asks for a snapshot to be taken back, whose number stands behind it.
+fn is_restore(word: &[u8]) -> bool
+    ensures { IsTrue result ↔ (word.now ≡ codes "restore") }
+{
+    matches!(word, b"restore")
+}
+
+/// The number that is the only word.
+fn read_number(text: &[u8]) -> Option<u32>
+    ensures found { IfSome result (λ n. (n < 2 ^ 32) × (tokens text.now ≡ decimal n ∷ [])) }
+    ensures complete { (n : ℕ) → n < 2 ^ 32 → tokens text.now ≡ decimal n ∷ [] → result ≡ Some n }
+{
+    let (number, rest) = next_number(text)?;
+    if !is_blank(rest) {
+        return None;
+    }
+    Some(number)
 }
 
 /// The deliveries that the words behind `converge` ask for.

@@ -3,7 +3,7 @@
 ghost use Rattle.std.specs.Prelude.{ℕ, List, [], ◌∷◌, ◌++◌};
 ghost use Rattle.watched.specs.Streams.{Writes, Writing};
 ghost use Rattle.reply_text.specs.Replies.{end_line};
-ghost use Rattle.converge_text.specs.Answers.{command_line, counts_text, delivery_text, echoed, ending_text, queued_text};
+ghost use Rattle.converge_text.specs.Answers.{command_line, counts_text, delivery_text, echoed, ending_text, numbered_text, queued_text};
 
 use convergence::{Delivery, Ending, Queued, Tally};
 use net_conf::Refusal;
@@ -171,5 +171,18 @@ fn write_end<W: Sink>(count: u64, output: &mut Output<W>) -> Result<(), WriterFa
         Part::Number(count),
         Part::Bytes(b"\n"),
     ];
+    write_each(&parts, output)
+}
+
+/// Writes the words, and a number behind them.
+#[tactic(auto, unfolding(crate::specs::Answers::numbered_text))]
+pub(crate) fn write_numbered<W: Sink>(
+    words: &[u8],
+    number: u64,
+    output: &mut Output<W>,
+) -> Result<(), WriterFailed>
+    ensures { Writes output.old (numbered_text words.now number) result output.new }
+{
+    let parts = [Part::Bytes(words), Part::Number(number), Part::Bytes(b"\n")];
     write_each(&parts, output)
 }

@@ -27,8 +27,7 @@ impl<M: Machine> Model for Keeping<M> {
 impl<M: Machine> Keeping<M> {
     /// The machine, of which no snapshot is kept.
     pub fn new(alloc: Global, machine: Reached<M>) -> Self
-        ensures network { result.network ≡ machine }
-        ensures snapshots { result.snapshots ≡ [] }
+        ensures { result ≡ record { network = machine; snapshots = [] } }
     {
         Keeping {
             machine,
