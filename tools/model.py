@@ -3,6 +3,7 @@
 
 It shares nothing with the Rattle code: it is written from the rules alone, decides everything afresh at each step, and is slow.
 """
+import copy
 import sys
 
 NAMES = ["", "syntax", "no-router", "router-exists", "same-router", "bad-end", "virtual-inside", "no-link", "link-exists",
@@ -143,6 +144,7 @@ class Net:
         self.queues = {}     # (from, to): list
         self.trees = {}
         self.offered = {}    # what was offered after the last step
+        self.kept = []       # snapshots: what all of these were
 
     # what follows from the configuration
 
@@ -670,9 +672,22 @@ def converge(net, words):
     return lines + [("not " if waiting(net) else "") + "converged after %d (%d updates, %d withdrawals)" % counts]
 
 
+def restored(net, n):
+    if not 1 <= n <= len(net.kept):
+        return ["no snapshot %d" % n]
+    before, net.__dict__ = net.kept[:n - 1], net.kept[n - 1]
+    net.kept = before
+    return ["ok"]
+
+
 def answer_converge(net, line):
     words = [w for w in line.split(" ") if w]
     try:
+        if len(line) <= 4096 and words == ["snapshot"]:
+            net.kept.append(copy.deepcopy({name: value for name, value in net.__dict__.items() if name != "kept"}))
+            return ["snapshot %d" % len(net.kept)]
+        if len(line) <= 4096 and words[:1] == ["restore"] and len(words) == 2:
+            return restored(net, number(words[1]))
         if len(line) <= 4096 and words[:1] == ["converge"]:
             return converge(net, words[1:])
         if len(line) <= 4096 and words == ["waiting"]:
