@@ -4,6 +4,7 @@ ghost use Rattle.std.specs.Prelude.{◌≡◌};
 
 use crate::feeding::feed_attr;
 use path_attr::{Attr, SharedAttr};
+use std::alloc::AllocError;
 use std::hash::{Hash, Hasher};
 use std::marker::Model;
 
@@ -48,6 +49,16 @@ impl Key {
         ensures { result ≡ self }
     {
         self.attr
+    }
+}
+
+impl Clone for Key {
+    ghost is_clone = { λ key again. again ≡ key };
+
+    fn clone(&self) -> Result<Self, AllocError> {
+        Ok(Key {
+            attr: self.attr.share()?,
+        })
     }
 }
 

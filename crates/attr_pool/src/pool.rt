@@ -8,7 +8,8 @@ use crate::first_hasher::FirstHasher;
 use crate::key::Key;
 use indexmap::IndexSet;
 use path_attr::{Attr, SharedAttr};
-use std::alloc::Global;
+use seq::Copied;
+use std::alloc::{AllocError, Global};
 use std::hash::RandomState;
 use std::marker::Model;
 
@@ -142,5 +143,15 @@ impl Pool {
     {
         let key = self.attrs.get_index(id.number())?;
         Some(key.shared())
+    }
+}
+
+/// The same attributes under the same numbers, and under the same keys.
+impl Copied for Pool {
+    fn copy(&self, _alloc: Global) -> Result<Self, AllocError> {
+        Ok(Pool {
+            attrs: self.attrs.clone()?,
+            last: self.last,
+        })
     }
 }

@@ -14,6 +14,7 @@ pub use hops::Hops;
 use net_prefix::{Addr, Prefix};
 use prefix_table::{Adjust, PrefixTable};
 use route_select::Chosen;
+use seq::Copied;
 use std::alloc::{AllocError, Global};
 use std::marker::{Model, PhantomData};
 
@@ -124,5 +125,15 @@ impl<S: Chosen, T: PrefixTable<Cell<S>>> PrefixTable<Cell<S>> for HopTable<S, T>
 
     fn entries(&self, alloc: Global) -> Result<Vec<(Prefix, &Cell<S>)>, AllocError> {
         self.cells.entries(alloc)
+    }
+}
+
+impl<S: Chosen + Drop, T: PrefixTable<Cell<S>> + Copied> Copied for HopTable<S, T> {
+    fn copy(&self, alloc: Global) -> Result<Self, AllocError> {
+        Ok(HopTable {
+            cells: self.cells.copy(alloc)?,
+            hops: self.hops,
+            choices: PhantomData,
+        })
     }
 }

@@ -26,6 +26,7 @@ use net_prefix::{Addr, Prefix};
 use prefix_table::PrefixTable;
 use route_select::Chosen;
 pub use router_test::is_router_again;
+use seq::Copied;
 use session_queue::{Direction, Queues};
 use shared_map::ChunkedSet;
 use std::alloc::{AllocError, Global};
@@ -155,5 +156,23 @@ impl<S: Chosen, T: PrefixTable<Cell<S>>> State<S, T> {
         ensures { option_copied result ≡ value_at router prefix self.now.tables }
     {
         self.tables.get(router, prefix)
+    }
+}
+
+/// The same state once more, for as long as it is wanted: the configuration and the attributes get one owner more, and
+/// what was received and what is on its way is copied.
+impl<S: Chosen + Drop, T: PrefixTable<Cell<S>> + Copied> Copied for State<S, T> {
+    fn copy(&self, alloc: Global) -> Result<Self, AllocError> {
+        let conf = self.conf.copy(alloc)?;
+        let tables = self.tables.copy(alloc)?;
+        let directions = self.directions.share()?;
+        let queues = self.queues.copy(alloc)?;
+        Ok(State {
+            alloc,
+            conf,
+            tables,
+            directions,
+            queues,
+        })
     }
 }

@@ -46,6 +46,13 @@ impl Link {
             Some(NodeId(self.0 as usize))
         }
     }
+
+    /// The same once more.
+    pub(crate) fn again(&self) -> Self
+        ensures { result ≡ self.now }
+    {
+        Link(self.0)
+    }
 }
 
 /// The index of a value, or none.
@@ -82,5 +89,12 @@ impl Place {
         } else {
             Some(self.0 as usize)
         }
+    }
+
+    /// The same once more.
+    pub(crate) fn again(&self) -> Self
+        ensures { result ≡ self.now }
+    {
+        Place(self.0)
     }
 }

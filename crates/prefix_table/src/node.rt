@@ -8,6 +8,8 @@ ghost use Rattle.prefix_table.specs.Trie.{bit_at, child_of, prefix_at, place_at,
 
 use crate::link::{Link, Place};
 use net_prefix::{Addr, Prefix};
+use seq::Copied;
+use std::alloc::{AllocError, Global};
 
 /// A node's index in the arena.
 #[derive(Clone, Copy, Debug, PartialEq, Eq)]
@@ -46,6 +48,17 @@ impl Node {
         } else {
             self.low.node()
         }
+    }
+}
+
+impl Copied for Node {
+    fn copy(&self, _alloc: Global) -> Result<Self, AllocError> {
+        Ok(Node {
+            prefix: self.prefix,
+            low: self.low.again(),
+            high: self.high.again(),
+            place: self.place.again(),
+        })
     }
 }
 

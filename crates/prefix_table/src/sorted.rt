@@ -14,6 +14,7 @@ use crate::cut::{comes_after, cut};
 use crate::gather::add;
 use crate::table::PrefixTable;
 use net_prefix::{Addr, MAX_LEN, Prefix};
+use seq::Copied;
 use std::alloc::{AllocError, Global};
 use std::marker::Model;
 
@@ -82,6 +83,17 @@ fn refer_to<V>(alloc: Global, entries: &[(Prefix, V)]) -> Result<Vec<(Prefix, &V
         add(&mut found, (entry.0, &entry.1))?;
     }
     Ok(found)
+}
+
+/// Copies of the entries, in order.
+fn copies<V: Copied>(alloc: Global, entries: &[(Prefix, V)]) -> Result<Vec<(Prefix, V)>, AllocError>
+    ensures { IfOk result (λ copies. copies.items ≡ entries.now) }
+{
+    let mut copies = Vec::with_capacity(alloc, entries.len())?;
+    for entry in entries {
+        copies.push((entry.0, entry.1.copy(alloc)?))?;
+    }
+    Ok(copies)
 }
 
 /// Gives the prefix this value.
@@ -183,5 +195,13 @@ impl<V: Drop> PrefixTable<V> for SortedTable<V> {
 
     fn entries(&self, alloc: Global) -> Result<Vec<(Prefix, &V)>, AllocError> {
         refer_to(alloc, &self.entries)
+    }
+}
+
+impl<V: Copied> Copied for SortedTable<V> {
+    fn copy(&self, alloc: Global) -> Result<Self, AllocError> {
+        Ok(SortedTable {
+            entries: copies(alloc, &self.entries)?,
+        })
     }
 }

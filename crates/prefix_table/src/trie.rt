@@ -20,6 +20,7 @@ use crate::table::PrefixTable;
 use crate::walk::refer_to;
 use crate::way::{Way, place_by, way_to};
 use net_prefix::{Addr, Prefix};
+use seq::{Copied, copy_all};
 use std::alloc::{AllocError, Global};
 use std::marker::Model;
 
@@ -289,5 +290,15 @@ impl<V: Drop> PrefixTable<V> for TrieTable<V> {
 
     fn entries(&self, alloc: Global) -> Result<Vec<(Prefix, &V)>, AllocError> {
         refer_to(alloc, &self.nodes, &self.values)
+    }
+}
+
+impl<V: Copied> Copied for TrieTable<V> {
+    fn copy(&self, alloc: Global) -> Result<Self, AllocError> {
+        Ok(TrieTable {
+            nodes: copy_all(alloc, &self.nodes)?,
+            values: copy_all(alloc, &self.values)?,
+            last: None,
+        })
     }
 }

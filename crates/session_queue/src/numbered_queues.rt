@@ -10,6 +10,7 @@ use crate::direction::Direction;
 use crate::numbered::Numbered;
 use crate::queue::Queue;
 use net_prefix::Addr;
+use seq::Copied;
 use std::alloc::{AllocError, Global};
 use std::collections::BTreeMap;
 use std::marker::Model;
@@ -252,6 +253,17 @@ impl NumberedQueues {
         ensures { option_copied result ≡ waiting_at self.now from to }
     {
         self.queues.get(&Direction { from, to })
+    }
+}
+
+impl Copied for NumberedQueues {
+    fn copy(&self, alloc: Global) -> Result<Self, AllocError> {
+        Ok(NumberedQueues {
+            alloc,
+            queues: self.queues.clone()?,
+            full: self.full,
+            resting: self.resting,
+        })
     }
 }
 

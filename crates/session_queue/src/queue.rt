@@ -124,3 +124,16 @@ impl Queue {
         self.messages.get(n).copied()
     }
 }
+
+impl Clone for Queue {
+    ghost is_clone = { λ queue again. again ≡ queue };
+
+    fn clone(&self) -> Result<Self, AllocError> {
+        let mut messages = self.messages.clone()?;
+        messages.reserve(self.spare)?;
+        Ok(Queue {
+            messages,
+            spare: self.spare,
+        })
+    }
+}

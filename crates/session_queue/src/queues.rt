@@ -11,6 +11,7 @@ use crate::view::View;
 use attr_pool::{AttrId, Pool};
 use net_prefix::Addr;
 use path_attr::SharedAttr;
+use seq::Copied;
 use std::alloc::{AllocError, Global};
 use std::hash::RandomState;
 use std::marker::Model;
@@ -259,5 +260,14 @@ impl Queues {
         ensures none { IfNone result ((from to : Addr) → shard_of to shards ≡ shard → queue_at self.now from to ≡ []) }
     {
         self.queues.next_in(shard, shards)
+    }
+}
+
+impl Copied for Queues {
+    fn copy(&self, alloc: Global) -> Result<Self, AllocError> {
+        Ok(Queues {
+            queues: self.queues.copy(alloc)?,
+            pool: self.pool.copy(alloc)?,
+        })
     }
 }

@@ -18,9 +18,10 @@ use net_conf::Refusal;
 use prefix_table::{PrefixTable, SortedTable, TrieTable};
 use reference_machine::Machine;
 use route_select::{Chosen, FilterCell, GroupCell, Selector};
+use seq::Copied;
 use session_queue::Direction;
 use sim_event::{Event, Reply};
-use std::alloc::Global;
+use std::alloc::{AllocError, Global};
 use std::hash::RandomState;
 use std::marker::Model;
 use std::thread::Threads;
@@ -73,6 +74,20 @@ impl<S: Chosen, T: PrefixTable<Cell<S>>> Sim<S, T> {
         ensures { result ≡ self.now.decided }
     {
         self.decided
+    }
+}
+
+impl<S: Chosen + Drop, T: PrefixTable<Cell<S>> + Copied> Sim<S, T> {
+    /// The same network and count once more, to go on with later: neither sees what becomes of the other. The faults
+    /// are want of memory, and 2^63 owners of what both share.
+    pub fn copy(&self) -> Result<Self, AllocError>
+        ensures { IfOk result (λ copy. copy ≡ self.now) }
+    {
+        Ok(Sim {
+            alloc: self.alloc,
+            state: self.state.copy(self.alloc)?,
+            decided: self.decided,
+        })
     }
 }
 

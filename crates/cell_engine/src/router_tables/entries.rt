@@ -1,4 +1,4 @@
-//! Writes into a vector of tables in the order of the routers.
+//! Writes into a vector of tables in the order of the routers, and copies of it.
 
 ghost use Rattle.std.specs.Prelude.{◌≡◌, None, Some, is_some, IfOk, IfErr, OnOk, OnErr};
 ghost use Rattle.cell_engine.specs.RouterTables.{AreByRouter, tables_of, value_at, with_value, adjusted_at};
@@ -6,7 +6,8 @@ ghost use Rattle.cell_engine.specs.RouterTables.{AreByRouter, tables_of, value_a
 use crate::router_tables::places::place_from;
 use net_prefix::{Addr, Prefix};
 use prefix_table::{Adjust, PrefixTable};
-use std::alloc::Global;
+use seq::Copied;
+use std::alloc::{AllocError, Global};
 
 /// Gives the router and prefix this value. The router's table is looked for first at the place of the last one.
 pub(crate) fn insert_in<V: Drop, T: PrefixTable<V> + Drop>(
@@ -96,4 +97,18 @@ pub(crate) fn adjust_in<V, T: PrefixTable<V>, A: Adjust<V>>(
         }
         Err(_) => false,
     }
+}
+
+/// Copies of the tables, in order.
+pub(crate) fn copy_tables<T: Copied>(
+    alloc: Global,
+    entries: &[(Addr, T)],
+) -> Result<Vec<(Addr, T)>, AllocError>
+    ensures { IfOk result (λ copies. copies.items ≡ entries.now) }
+{
+    let mut copies = Vec::with_capacity(alloc, entries.len())?;
+    for entry in entries {
+        copies.push((entry.0, entry.1.copy(alloc)?))?;
+    }
+    Ok(copies)
 }

@@ -6,11 +6,12 @@ ghost use Rattle.std.specs.FinMap.Entries.{find};
 ghost use Rattle.net_prefix.specs.Address.{addr_cmp};
 ghost use Rattle.cell_engine.specs.RouterTables.{AreByRouter, value_at, with_value, adjusted_at, next_of};
 
-use crate::router_tables::entries::{adjust_in, insert_in, replace_in};
+use crate::router_tables::entries::{adjust_in, copy_tables, insert_in, replace_in};
 use crate::router_tables::places::{next_in, table_in};
 use net_prefix::{Addr, Prefix};
 use prefix_table::{Adjust, PrefixTable};
-use std::alloc::Global;
+use seq::Copied;
+use std::alloc::{AllocError, Global};
 use std::marker::{Model, PhantomData};
 
 /// Tables by the address of their router. Look-ups of a router halve a sorted vector; the table of a new router moves
@@ -114,5 +115,15 @@ impl<V: Drop, T: PrefixTable<V> + Drop> RouterTables<V, T> {
             prefix,
             value,
         )
+    }
+}
+
+impl<V: Drop, T: PrefixTable<V> + Copied> Copied for RouterTables<V, T> {
+    fn copy(&self, alloc: Global) -> Result<Self, AllocError> {
+        Ok(RouterTables {
+            entries: copy_tables(alloc, &self.entries)?,
+            last: self.last,
+            values: PhantomData,
+        })
     }
 }

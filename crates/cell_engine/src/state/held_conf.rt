@@ -7,6 +7,7 @@ ghost use Rattle.net_conf.specs.Configured.{IsConfigured};
 ghost use Rattle.cell_engine.specs.Sharing.{conf_shown};
 
 use net_conf::Conf;
+use seq::Copied;
 use std::alloc::{AllocError, Global};
 use std::marker::Model;
 use std::sync::Arc;
@@ -73,5 +74,15 @@ impl HeldConf {
         ensures { self.new ≡ arc_value conf }
     {
         self.share = Some(conf);
+    }
+}
+
+/// One owner more of the configuration.
+impl Copied for HeldConf {
+    fn copy(&self, alloc: Global) -> Result<Self, AllocError> {
+        Ok(HeldConf {
+            nothing: Conf::new(alloc),
+            share: self.share()?,
+        })
     }
 }
