@@ -4,6 +4,7 @@ ghost use Rattle.std.specs.Prelude.{◌≡◌};
 ghost use Rattle.cell_engine.specs.State.{network};
 ghost use Rattle.convergence.specs.Waiting.{on_way, queued_of, IsNextWaiting};
 
+use crate::copying::Copying;
 use crate::waiting::{Queued, Waiting};
 use cell_engine::{Cell, State};
 use net_conf::SiteSession;
@@ -11,6 +12,7 @@ use net_prefix::Addr;
 use prefix_table::{PrefixTable, SortedTable, TrieTable};
 use route_select::{Chosen, FilterCell, GroupCell};
 use sim_core::Sim;
+use std::alloc::AllocError;
 
 /// The next direction in which a message waits, by sender, then by receiver: the first of all, or the first past the
 /// one that is given.
@@ -79,5 +81,17 @@ impl Waiting for Sim<FilterCell, SortedTable<Cell<FilterCell>>> {
 
     fn sessions(&self, router: Addr) -> &[SiteSession] {
         sessions_in(self.state(), router)
+    }
+}
+
+impl Copying for Sim<GroupCell, TrieTable<Cell<GroupCell>>> {
+    fn copy(&self) -> Result<Self, AllocError> {
+        Sim::copy(self)
+    }
+}
+
+impl Copying for Sim<FilterCell, SortedTable<Cell<FilterCell>>> {
+    fn copy(&self) -> Result<Self, AllocError> {
+        Sim::copy(self)
     }
 }
