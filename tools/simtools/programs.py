@@ -28,7 +28,8 @@ def bgpsim() -> str:
     """The path of the program: PROGRAM=, else what was built of crates/bgpsim. Missing where it is not there."""
     if is_chosen():
         return _found(os.environ["PROGRAM"], "PROGRAM= names it")
-    return _found(str(TOP / "crates" / "bgpsim" / "out" / "bgpsim"), "./bgpsim --prove builds it")
+    remedy = "./bgpsim --prove builds it; PROGRAM=$(./bgpsim --which) takes the quick one"
+    return _found(str(TOP / "crates" / "bgpsim" / "out" / "bgpsim"), remedy)
 
 
 def current_bgpsim() -> str:
