@@ -4,6 +4,7 @@ from __future__ import annotations
 from typing import Any, Dict, List, Optional
 
 from ..importers.common.configuration import Told
+from ..importers.common.report import whole
 from .comparison import Comparison
 from .report import notes
 from .sources import Source
@@ -34,7 +35,7 @@ def _lines(found: List[Source]) -> List[Dict[str, Any]]:
 
 
 def _told(side: str, found: List[Told]) -> List[Dict[str, Any]]:
-    return [{"side": side, "file": each.file, "line": each.line, "text": each.text, "decides": each.decides}
+    return [{"side": side, "file": each.file, "line": each.line, "text": whole(each.text), "decides": each.decides}
             for each in found]
 
 

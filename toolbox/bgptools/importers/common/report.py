@@ -52,6 +52,11 @@ def texts(network: Network, told: List[Told], lists_all: bool) -> List[str]:
     return _texts(sorted(told, key=_rank), _names(network), lists_all)
 
 
+def whole(text: str) -> str:
+    """A text that is told, with whole lists and with addresses as they are."""
+    return _shown(text, {}, True)
+
+
 def _rank(each: Told) -> int:
     return (0 if each.is_certain else 1) if each.decides else 2
 
