@@ -1,4 +1,5 @@
-"""What a change does, before a real network is touched: a base converged, and the same with the change, compared router by router."""
+"""What a change does, before a real network is touched: a base converged, and the same with the change, compared router
+by router; or two networks."""
 from __future__ import annotations
 
 import argparse
@@ -29,21 +30,21 @@ def parser() -> argparse.ArgumentParser:
     """The words of the command line."""
     made = what_if.parser()
     made.description = (
-        "What a change does: plays BASE until all queues are empty, then CHANGE, any commands, until they are empty again, "
-        "and tells what differs, router by router. With two folders of configurations, or with --new, BASE and the other "
-        "one are two networks: each converges from nothing, and what differs is told with the lines of the files that "
-        "made it.")
+        "What a change does: plays BASE until all queues are empty, then CHANGE, any commands, until they are empty "
+        "again, and reports what differs, router by router. With two folders of configurations, or with --new, BASE "
+        "and the other one are two networks. Each converges from nothing, and what differs is shown with the lines of the "
+        "files that made it.")
     made.epilog = (
         "Exit status: 0 nothing changed; 1 something did, a line was left out that may decide a route, or it does not "
         "converge; 2 a mistake, as a line that is refused.")
-    made.add_argument("--new", metavar="NEW", help="compare BASE with NEW, each a script or a folder of configurations of "
-                                                   "FRR or BIRD; there is no CHANGE then")
-    made.add_argument("--from", dest="kind", choices=KINDS, help="whose configurations folders have; without it their "
-                                                                 "files say it")
-    made.add_argument("--feeds", metavar="FILE", help="play these commands behind BASE and behind NEW: what neighbours "
-                                                      "without a file send; - is standard input")
-    made.add_argument("--steps", action="store_true", help="also play the commands that lead from BASE to NEW, and tell "
-                                                           "what is lost or leaked in between")
+    made.add_argument("--new", metavar="NEW", help=(
+        "compare BASE with NEW, each a script or a folder of configurations of FRR or BIRD; there is no CHANGE then"))
+    made.add_argument("--from", dest="kind", choices=KINDS, help=(
+        "whose configurations folders have; without it their files say it"))
+    made.add_argument("--feeds", metavar="FILE", help=(
+        "play these commands behind BASE and behind NEW: what neighbours without a file send; - is standard input"))
+    made.add_argument("--steps", action="store_true", help=(
+        "also play the commands that lead from BASE to NEW, and report what is lost or leaked in between"))
     return made
 
 
@@ -120,7 +121,8 @@ def _two(chosen: argparse.Namespace, new: str) -> int:
     if chosen.each:
         raise Mistake("--each is of a CHANGE; --steps plays what leads from %s to %s" % (chosen.base, new))
     feeds = read(chosen.feeds) if chosen.feeds else []
-    found = comparison.compared(side_of(chosen.base, chosen.kind), side_of(new, chosen.kind), feeds, chosen, chosen.trace)
+    sides = [side_of(path, chosen.kind) for path in (chosen.base, new)]
+    found = comparison.compared(sides[0], sides[1], feeds, chosen, chosen.trace)
     report.print_left_out(found, chosen.all)
     if chosen.json:
         sys.stdout.write(_json_of_two(found))

@@ -44,8 +44,9 @@ class Comparison:
 
 def compared(before: Side, after: Side, feeds: List[Line], chosen: argparse.Namespace,
              asked: List[Tuple[str, str]]) -> Comparison:
-    """Converges both sides with these feeds, and compares them; with `chosen.steps` also plays the steps. Raises Mistake
-    where OLD does not converge, a line is refused, or no commands lead to NEW."""
+    """Converges both sides with these feeds, and compares them; with `chosen.steps` also plays the steps.
+
+    Raises Mistake where OLD does not converge, a line is refused, or no commands lead to NEW."""
     unfed: List[Tuple[Line, Side]] = []
     with _run(chosen) as old, _run(chosen) as new:
         for run, side in ((old, before), (new, after)):

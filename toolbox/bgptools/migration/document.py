@@ -19,7 +19,8 @@ def fields_of(found: Comparison) -> Dict[str, Any]:
     told = found.left_out
     return {
         "configuration": [{"kind": each.kind, "part": each.part[0], "of": list(each.part[1:]), "old": each.old,
-                           "new": each.new, "old_lines": _lines(each.old_sources), "new_lines": _lines(each.new_sources),
+                           "new": each.new, "old_lines": _lines(each.old_sources),
+                           "new_lines": _lines(each.new_sources),
                            "indirect": each.is_indirect} for each in found.parts],
         "left_out": [*_told("old", told.old), *_told("new", told.new), *_told("both", told.both)],
         "steps": _steps(found.played)}

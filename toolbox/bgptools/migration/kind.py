@@ -11,7 +11,8 @@ from ..importers.frr.files import SINGLE, WHOLE
 from ..program.mistakes import Mistake
 
 KINDS = ("frr", "bird")
-_FRR = re.compile(r"^(router (bgp|ospf|isis)\b|interface \S|hostname \S|frr (version|defaults)\b|route-map \S)[^;{]*$", re.M)
+_FRR = re.compile(r"^(router (bgp|ospf|isis)\b|interface \S|hostname \S|frr (version|defaults)\b|route-map \S)"
+                  r"[^;{]*$", re.M)
 _BIRD = re.compile(r"^\s*(protocol\s+[a-z]+\b|template\s+bgp\b|router\s+id\s+[0-9.]+\s*;|filter\s+\w+\s*\{)", re.M)
 INSTEAD = "write `--from frr` or `--from bird`"
 

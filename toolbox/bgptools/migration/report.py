@@ -13,7 +13,8 @@ from .sources import Source
 from .transients import Played, Temporary
 
 _TITLES = {
-    "router": "router %s", "virtual": "virtual peer %s", "link": "link of %s and %s", "session": "session of %s and %s",
+    "router": "router %s", "virtual": "virtual peer %s", "link": "link of %s and %s",
+    "session": "session of %s and %s",
     "cluster": "cluster of %s", "med": "comparison of MED at %s", "client": "%s has the client %s",
     "self": "%s sends %s itself as next hop", "policy": "policy of %s for %s, %s", "origin": "%s originates %s",
     "feed": "%s sends to %s: %s"}
@@ -57,7 +58,8 @@ def notes(found: Comparison) -> List[str]:
         lines.append("%s:%d: not fed in %s, which has no session of %s" % (
             line.file, line.number, side.path, " and ".join(line.words[1:3])))
     if found.silent:
-        lines += listed("These neighbours send nothing, which --feeds FILE changes: ", list(map(names.shown, found.silent)))
+        lines += listed("These neighbours send nothing, which --feeds FILE changes: ",
+                        list(map(names.shown, found.silent)))
     if found.left_out.decides:
         lines.append("Lines were left out that may decide a route: the network may do otherwise.")
     return lines
@@ -106,7 +108,8 @@ def _played(played: Played, names: Names, is_all: bool) -> List[str]:
     if played.not_converged:
         return lines + ["STEP %d DOES NOT CONVERGE; those behind it were not played." % played.not_converged]
     if played.differs:
-        return lines + listed("THE STEPS END OTHERWISE THAN NEW, with other routes at: ", list(map(names.shown, played.differs)))
+        return lines + listed("THE STEPS END OTHERWISE THAN NEW, with other routes at: ",
+                              list(map(names.shown, played.differs)))
     return lines + ["The steps end with the routes of NEW."]
 
 

@@ -1,9 +1,9 @@
 """The commands that lead from one network to another, in an order that makes before it breaks.
 
-New routers, links and sessions come first, but new sessions are stopped at once. Then come settings and policies, while a
-new session carries nothing. Then these sessions start, and what is new is originated and fed. What goes comes last:
-policies and settings of sessions that stay, origins and feeds, sessions, links. No command takes a router, a link or a
-session out: its session is stopped, and its link fails."""
+New routers, links and sessions come first, but new sessions are stopped at once. Then come settings and policies, while
+a new session carries nothing. Then these sessions start, and what is new is originated and fed. What goes comes last:
+policies of sessions that stay, feeds and origins, sessions, links. No command takes a router, a link or a session out:
+its session is stopped, and its link fails."""
 from __future__ import annotations
 
 from typing import Dict, Iterator, List, NamedTuple
@@ -103,22 +103,26 @@ def _settings(made: Ends) -> Iterator[List[str]]:
             lines.append("cluster %s %s" % (router, cluster))
         if (router in made.new.med_always) != (router in made.old.med_always):
             lines.append("med %s %s" % (router, "always" if router in made.new.med_always else "as"))
-        for word, old, new in (("client", made.old.clients, made.new.clients), ("self", made.old.selves, made.new.selves)):
+        for word, old, new in (("client", made.old.clients, made.new.clients),
+                               ("self", made.old.selves, made.new.selves)):
             lines += ["%s %s %s %s" % (word, *way, "on" if way in new else "off")
                       for way in sorted(old ^ new) if way[0] == router and pair(*way) in made.new.enabled]
         yield lines
 
 
 def _policies(made: Ends, goes: bool) -> Iterator[Step]:
-    """The policies of each end of a session: those that are new or other ones, or those that go. One that goes on as it
-    was gets its new rules, any other is written anew."""
-    for key in sorted({*made.old.rules, *made.new.rules}, key=lambda key: (by_address(key[0]), by_address(key[1]), key[2])):
+    """The policies of each end of a session: those that are new or other ones, or those that go.
+
+    One that goes on as it was gets its new rules, any other is written anew."""
+    keys = {*made.old.rules, *made.new.rules}
+    for key in sorted(keys, key=lambda key: (by_address(key[0]), by_address(key[1]), key[2])):
         old, new = made.old.rules.get(key, []), made.new.rules.get(key, [])
         if old == new or goes == bool(new) or pair(key[0], key[1]) not in made.new.enabled:
             continue
         lines = [] if new[:len(old)] == old else ["clear %s %s %s" % key]
         rules = new if lines else new[len(old):]
-        yield Step("a policy goes" if goes else "a policy", lines + ["rule %s %s %s %s" % (*key, rule) for rule in rules])
+        lines += ["rule %s %s %s %s" % (*key, rule) for rule in rules]
+        yield Step("a policy goes" if goes else "a policy", lines)
 
 
 def _metrics(made: Ends) -> Iterator[str]:

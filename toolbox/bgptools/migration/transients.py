@@ -94,7 +94,8 @@ def _wrong(here: View, before: View, after: View) -> Set[Subject]:
     """What is otherwise than in both networks."""
     lost = {("lost", router, "", where) for router, where in before.has & after.has - here.has}
     leaked = {("leaked", *each) for each in here.sends - before.sends - after.sends}
-    return lost | leaked | {("unreached", router, "", to) for router, to in before.reached & after.reached - here.reached}
+    unreached = {("unreached", router, "", to) for router, to in before.reached & after.reached - here.reached}
+    return lost | leaked | unreached
 
 
 def _temporary(seen: List[Set[Subject]]) -> List[Temporary]:

@@ -1,5 +1,5 @@
-"""what-if of two networks: folders of FRR and BIRD, and scripts. What it tells is what a change of the one network does,
-and its steps end with the routes of the other one."""
+"""what-if of two networks: folders of FRR and BIRD, and scripts. What it tells is what a change of the one network
+does, and its steps end with the routes of the other one."""
 import json
 
 from common import TOOLBOX, TOP, Case, inside, tool
@@ -11,9 +11,9 @@ feed 172.17.0.2 10.0.0.2 update 198.51.100.0/24 64998,64997 igp -
 """
 
 
-def border(own, other, provider, asn, *more, preference=200, passive=False):
+def border(own, other, provider, asn, *more, preference=200):
     """A border router of AS 65001 with one provider, whose routes it prefers so."""
-    return router(65001, own, "eth0 10.1.0.%s/30" % own[-1], "eth1 %s/30" % (provider[:-1] + "1"), ospf="10.0.0.0/8", bgp=[
+    return router(65001, own, "eth0 10.1.0.%s/30" % own[-1], "eth1 %s/30" % (provider[:-1] + "1"), bgp=[
         "neighbor %s remote-as internal" % other, "neighbor %s update-source lo" % other,
         "neighbor %s next-hop-self" % other, "neighbor %s remote-as %d" % (provider, asn),
         "neighbor %s route-map PROVIDER in" % provider],
@@ -48,18 +48,21 @@ class Folders(Networks):
                 {"file": str(folder / "west.conf"), "line": line,
                  "text": "route-map PROVIDER permit 10: set local-preference %d" % preference}])
         # RFC 4271, 9.1.1: the highest preference wins, so that the exit moves from west to east.
-        self.assertEqual({each["router"]: (each["before"]["source"], each["after"]["source"]) for each in told["routes"]},
-                         {"10.0.0.1": ("172.16.0.2", "10.0.0.2"), "10.0.0.2": ("10.0.0.1", "172.17.0.2")})
+        self.assertEqual({each["router"]: (each["before"]["source"], each["after"]["source"])
+                          for each in told["routes"]}, {
+                          "10.0.0.1": ("172.16.0.2", "10.0.0.2"), "10.0.0.2": ("10.0.0.1", "172.17.0.2")})
 
     def test_the_same_network_twice(self):
         old, new = self.folder_of("old"), self.folder_of("new")
         ran = inside("what-if", old, new)
-        self.assertEqual(ran.stdout.split("\n")[:2], ["Configuration: no part differs", "No route, session or packet changes."])
+        self.assertEqual(ran.stdout.split("\n")[:2], [
+            "Configuration: no part differs", "No route, session or packet changes."])
         self.assertEqual(self.told(old, new, status=ran.returncode)["configuration"], [])
 
     def test_what_is_left_out_is_told_of_one_side_first_and_of_both_once(self):
         old = self.folder_of("old", more=["bgp as-path access-list A permit 1_2_3"])
-        new = self.folder_of("new", more=["bgp as-path access-list A permit 1_2_3", "router bgp 65001", " bgp no-such-line"])
+        new = self.folder_of("new", more=[
+            "bgp as-path access-list A permit 1_2_3", "router bgp 65001", " bgp no-such-line"])
         ran = inside("what-if", old, new)
         heads = [line.split(": ")[0] for line in ran.stderr.split("\n") if "no-such-line" in line or "1_2_3" in line]
         self.assertEqual(heads, sorted(heads, key=["NEW only", "OLD and NEW"].index))
@@ -85,7 +88,8 @@ class Folders(Networks):
     def test_a_line_of_bird(self):
         for name, preference in (("old", 80), ("new", 120)):
             for path in (LESSONS / "bird").glob("*.conf"):
-                self.file("%s/%s" % (name, path.name), path.read_text().replace("local_pref = 80", "local_pref = %d" % preference))
+                text = path.read_text().replace("local_pref = 80", "local_pref = %d" % preference)
+                self.file("%s/%s" % (name, path.name), text)
         told = self.told(self.folder / "old", self.folder / "new")
         self.assertEqual([each["text"] for each in told["configuration"][0]["old_lines"]], ["bgp_local_pref = 80;"])
         self.assertEqual([each["text"] for each in told["configuration"][0]["new_lines"]], ["bgp_local_pref = 120;"])
@@ -126,7 +130,7 @@ class Scripts(Networks):
                     ran = inside("what-if", one, "--new", other, "--json", "--steps")
                     if ran.returncode != 2:
                         told = json.loads(ran.stdout)
-                        self.assertEqual(told["steps"] and told["steps"]["other_routes_at"], told["steps"] and [], ran.stderr)
+                        self.assertEqual((told["steps"] or {"other_routes_at": []})["other_routes_at"], [])
 
     def test_a_router_that_goes(self):
         old = self.file("old.bgp", """router 1.0.0.1 1
@@ -138,9 +142,11 @@ join 1.0.0.1 2.0.0.1
 join 2.0.0.1 3.0.0.1
 origin 3.0.0.1 198.51.100.0/24
 """)
-        new = self.file("new.bgp", "".join(line + "\n" for line in old.read_text().split("\n")[:-1] if "3.0.0.1" not in line))
+        kept = [line for line in old.read_text().split("\n")[:-1] if "3.0.0.1" not in line]
+        new = self.file("new.bgp", "".join(line + "\n" for line in kept))
         told = self.told(old, "--new", new, "--steps")
-        self.assertEqual([(each["kind"], each["router"]) for each in told["routes"]], [("lost", "1.0.0.1"), ("lost", "2.0.0.1")])
+        self.assertEqual([(each["kind"], each["router"]) for each in told["routes"]], [
+            ("lost", "1.0.0.1"), ("lost", "2.0.0.1")])
         self.assertEqual(told["sessions_down"], [["2.0.0.1", "3.0.0.1"]])
         self.assertEqual([step["commands"] for step in told["steps"]["steps"]], [
             ["noorigin 3.0.0.1 198.51.100.0/24"], ["stop 2.0.0.1 3.0.0.1"], ["fail 2.0.0.1 3.0.0.1"]])
@@ -183,14 +189,17 @@ feed 3.0.0.1 1.0.0.1 update 198.51.100.0/24 3 igp -
     def test_a_route_that_leaks_in_between(self):
         """4.0.0.1 is to get it in neither network: in the first none has it, in the second its policy denies it."""
         deny = ["rule 1.0.0.1 2.0.0.1 in any deny", "rule 1.0.0.1 3.0.0.1 in any deny"]
-        told = self.steps(deny, ["rule 1.0.0.1 4.0.0.1 out any deny", deny[1], "rule 1.0.0.1 2.0.0.1 in any permit pref=90"])
+        told = self.steps(deny, ["rule 1.0.0.1 4.0.0.1 out any deny", deny[1],
+                                 "rule 1.0.0.1 2.0.0.1 in any permit pref=90"])
         self.assertEqual([(each["kind"], each["router"], each["peer"], each["about"], each["since"], each["until"])
                           for each in told["for_a_while"] if each["peer"] == "4.0.0.1"],
                          [("leaked", "1.0.0.1", "4.0.0.1", "198.51.100.0/24", 1, 2)])
 
     def test_what_leaks_between_two_commands(self):
-        told = self.steps(["rule 1.0.0.1 4.0.0.1 out any deny"], ["rule 1.0.0.1 4.0.0.1 out under 198.51.100.0/24 deny"])
-        self.assertEqual([(each["kind"], each["step"], each["peer"], each["prefix"]) for each in told["within_a_step"]],
+        told = self.steps(["rule 1.0.0.1 4.0.0.1 out any deny"],
+                          ["rule 1.0.0.1 4.0.0.1 out under 198.51.100.0/24 deny"])
+        self.assertEqual([(each["kind"], each["step"], each["peer"], each["prefix"])
+                          for each in told["within_a_step"]],
                          [("leaked", 1, "4.0.0.1", "198.51.100.0/24")])
 
     def test_no_command_moves_a_router_to_another_as(self):
