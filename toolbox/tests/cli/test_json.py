@@ -62,7 +62,7 @@ class Json(Case):
         return found
 
     def test_each_schema_is_one_of_a_tool_or_of_values(self):
-        tools = ("explain", "play", "converge", "hijack", "sweep", "timeline", "what-if")
+        tools = ("compare-live", "explain", "play", "converge", "hijack", "sweep", "timeline", "what-if")
         self.assertEqual(set(self.judges), {"language.json", "request.json", "values.json"} | {name + ".json" for name in tools})
 
     def test_a_schema_refuses_what_it_does_not_name(self):
