@@ -98,7 +98,8 @@ class Json(Case):
             fields = [documents.field_name(each.name) for each in dataclasses.fields(kind)]
             self.assertEqual(list(schema["properties"]), fields, kind.__name__)
         fields = {documents.field_name(each.name) for each in dataclasses.fields(Effect) if each.repr}
-        self.assertEqual(set(what_if["properties"]), fields | {"version", "tool", "base", "change", "names"})
+        self.assertEqual(set(what_if["properties"]), fields | {
+            "version", "tool", "base", "change", "names", "configuration", "left_out", "steps"})
 
     def test_bytes_of_a_script_and_of_a_name_are_shown_as_text_shows_them(self):
         path = os.fsencode(self.folder) + b"/a\xff.bgp"
