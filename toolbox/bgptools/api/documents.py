@@ -11,6 +11,7 @@ from ..convergence.delivery import Convergence
 from ..convergence.run import told_of, not_converged
 from ..convergence.stable_states import Found
 from ..convergence.tables_by_prefix import Tables
+from ..migration import document as migration
 from ..network.configuration import Network
 from ..program import replies, times
 from ..program.documents import Document, document, line_of, plain, text_of
@@ -77,9 +78,9 @@ def _time(time: Optional[int]) -> Optional[str]:
     return None if time is None else times.told(time)
 
 
-def effect(base: str, change: str, found: Effect, names: Names) -> Document:
-    """What a change does."""
-    return document("what-if", base=base, change=change, **plain(found), names=names.of)
+def effect(base: str, change: str, found: Effect, names: Names, **more: Any) -> Document:
+    """What a change does; `more` are the fields of two configurations that were compared."""
+    return document("what-if", base=base, change=change, **plain(found), **(more or migration.NONE), names=names.of)
 
 
 def stable_states(script: str, found: Found) -> Document:

@@ -45,6 +45,7 @@ class Difference:
     """What differs."""
     routers: Dict[str, List[Change]] = field(default_factory=dict)
     came: List[str] = field(default_factory=list)
+    gone: List[str] = field(default_factory=list)
     down: List[Direction] = field(default_factory=list)
     up: List[Direction] = field(default_factory=list)
     told: Dict[Direction, List[Change]] = field(default_factory=dict)
@@ -61,16 +62,18 @@ class Difference:
 
     @property
     def is_any(self) -> bool:
-        return bool(self.routers or self.came or self.down or self.up or self.told or self.ways or any(way.before != way.after for way in self.asked))
+        return bool(self.routers or self.came or self.gone or self.down or self.up or self.told or self.ways or any(way.before != way.after for way in self.asked))
 
 
 def compare(before: Answers, after: Answers, asked: List[Packet],
             chosen: Optional[Callable[[Difference], List[Packet]]] = None, has_reasons: bool = True) -> Difference:
-    """What differs between two runs, and how the packets go that are asked for.
+    """What differs between two runs, of a network and of the same with a change or of two networks, and how the packets
+    go that are asked for.
 
     Packets are followed from all routers to an address of each prefix; or, where it is given, those of `chosen`,
     which is told what differs so far. Why old routes lost is looked up where `has_reasons`."""
-    found = Difference(came=[r for r in after.network.routers() if r not in before.network.nodes])
+    found = Difference(came=[r for r in after.network.routers() if not before.network.is_router(r)],
+                       gone=[r for r in before.network.routers() if not after.network.is_router(r)])
     _compare_sessions(before, after, found)
     _compare_routes(before, after, found)
     if has_reasons:
@@ -89,7 +92,7 @@ def _changes(old: Dict[str, Route], new: Dict[str, Route]) -> List[Change]:
 def packets_of(before: Network, after: Network) -> List[Packet]:
     """Packets from each router that was there before to an address of each prefix."""
     everywhere = [r for r in before.routers() if after.is_router(r)]
-    return [(r, show_address(d)) for d in probes_of(after.prefixes) for r in everywhere]
+    return [(r, show_address(d)) for d in probes_of(before.prefixes | after.prefixes) for r in everywhere]
 
 
 def _tables(run: Answers) -> Dict[str, List[str]]:
@@ -115,7 +118,8 @@ def _tell_why(before: Answers, after: Answers, found: Difference) -> None:
     """By what each route that was chosen before loses now: as `why` says, or why it is not among what the router has."""
     asked = [(router, change, change.before.source) for router, changes in found.routers.items() for change in changes
              if change.before and change.before.source]
-    stopped = _stopped(after.lines[len(before.lines):])
+    is_same = after.lines[:len(before.lines)] == before.lines
+    stopped = _stopped(after.lines[len(before.lines):]) if is_same else set()
     for (router, change, source), reply in zip(asked, after.ask("why %s %s" % (router, change.prefix) for router, change, _ in asked)):
         shown = after.network.names.shown(source)
         change.reason = reason_now(reply, source, router in after.network.med_always)
@@ -160,22 +164,36 @@ def _stopped(lines: List[str]) -> Set[Pair]:
 
 def _compare_sessions(before: Answers, after: Answers, found: Difference) -> None:
     old, new = before.sessions_up(), after.sessions_up()
-    found.down = [way for way in new if old.get(way, False) and not new[way]]
+    found.down = [way for way in [*new, *(way for way in old if way not in new)] if old.get(way, False)
+                  and not new.get(way, False)]
     found.up = [way for way in new if new[way] and not old.get(way, False)]
 
 
 def _compare_told(before: Answers, after: Answers, found: Difference) -> None:
     """What virtual peers are told: they are the external neighbours that no router's table shows."""
-    for router, peer in ((r, v) for v in after.network.virtuals() for r in sorted(after.network.peers.get(v, ()), key=by_address)):
-        old, new = (routes(run.ask(["out %s %s" % (router, peer)])[0]) if peer in run.network.peers.get(router, ()) else {} for run in (before, after))
+    for router, peer in _told_ways(before, after):
+        old, new = (routes(run.ask(["out %s %s" % (router, peer)])[0])
+                    if _is_told(run, router, peer) else {} for run in (before, after))
         changes = _changes(old, new)
-        is_up = after.sessions_up([(router, peer)])[router, peer]
+        is_up = _is_told(after, router, peer) and after.sessions_up([(router, peer)])[router, peer]
         for change in (each for each in changes if each.after is None and is_up):
             kept = _kept_back(after, router, peer, change.prefix)
             shown = after.network.names.shown(router)
             change.reason = "%s chose a route that carries %s" % (shown, kept) if kept else ""
         if changes:
             found.told[router, peer] = changes
+
+
+def _told_ways(before: Answers, after: Answers) -> List[Direction]:
+    """The sessions with virtual peers, from the router's side: those of after first."""
+    found = [(router, peer) for run in (after, before) for peer in run.network.virtuals()
+             for router in sorted(run.network.peers.get(peer, ()), key=by_address)]
+    return list(dict.fromkeys(found))
+
+
+def _is_told(run: Answers, router: str, peer: str) -> bool:
+    """Whether a network has the session of a router with a virtual peer."""
+    return not run.network.is_router(peer) and peer in run.network.peers.get(router, ())
 
 
 def _ways(before: Answers, after: Answers, asked: List[Packet], is_all: bool) -> List[Way]:

@@ -58,7 +58,7 @@ def summary(difference: Difference) -> List[str]:
 
 # What is told as one
 
-def _listed(begin: str, items: List[str], end: str = "") -> List[str]:
+def listed(begin: str, items: List[str], end: str = "") -> List[str]:
     """The first of some items in a line or more."""
     more = " and\xa0%d\xa0more" % (len(items) - SHOWN) if len(items) > SHOWN else ""
     indent = " " * (len(begin) - len(begin.lstrip(" ")) + 8)
@@ -74,7 +74,7 @@ def _grouped(each: "Iterable[Tuple[Hashable, Item, str]]", is_whole: bool) -> "L
     return list(found.values())
 
 
-def _first(parts: List[List[str]], counts: List[int], is_all: bool, begin: str = "  and %d more") -> List[str]:
+def first_of(parts: List[List[str]], counts: List[int], is_all: bool, begin: str = "  and %d more") -> List[str]:
     """The lines of all parts, or of the first ones of many, with how many there are behind these."""
     lines = [line for part in (parts if is_all else parts[:SHOWN]) for line in part]
     left = 0 if is_all else sum(counts[SHOWN:])
@@ -84,7 +84,7 @@ def _first(parts: List[List[str]], counts: List[int], is_all: bool, begin: str =
 # Routes
 
 def _change(change: Change, prefixes: List[str], names: Names, moved: str) -> List[str]:
-    lines = _listed("  %-7s " % (moved if change.kind == "moved" else change.kind), prefixes)
+    lines = listed("  %-7s " % (moved if change.kind == "moved" else change.kind), prefixes)
     if change.before:
         lines.append("            was %s" % route_text(change.before, names))
     if change.after:
@@ -99,25 +99,25 @@ def _changes(changes: List[Change], names: Names, is_whole: bool, moved: str = "
     """Changes of one router."""
     same = [(*(route and (route.source, route.attributes) for route in (each.before, each.after)), each.reason) for each in changes]
     groups = _grouped(((key, each, each.prefix) for key, each in zip(same, changes)), is_whole)
-    return _first([_change(change, prefixes, names, moved) for change, prefixes in groups], [len(prefixes) for _, prefixes in groups], is_whole)
+    return first_of([_change(change, prefixes, names, moved) for change, prefixes in groups], [len(prefixes) for _, prefixes in groups], is_whole)
 
 
 def _routers(difference: Difference, names: Names, is_whole: bool) -> List[str]:
     parts = [["Router " + names.shown(router) + (" (new)" if router in difference.came else "")] + _changes(changes, names, is_whole)
              for router, changes in difference.routers.items()]
-    return _first(parts, [1] * len(parts), is_whole, "and %d more routers")
+    return first_of(parts, [1] * len(parts), is_whole, "and %d more routers")
 
 
 def _told(difference: Difference, names: Names, is_whole: bool) -> List[str]:
     parts = [["  %s to %s" % (names.shown(router), names.shown(peer))] + ["  " + line for line in _changes(changes, names, is_whole, "changed")]
              for (router, peer), changes in difference.told.items()]
-    return (["Told to external neighbours"] if parts else []) + _first(parts, [1] * len(parts), is_whole)
+    return (["Told to external neighbours"] if parts else []) + first_of(parts, [1] * len(parts), is_whole)
 
 
 # All else
 
 def _way(way: Way, addresses: List[str], names: Names) -> List[str]:
-    lines = _listed("  %s to " % names.shown(way.router), addresses)
+    lines = listed("  %s to " % names.shown(way.router), addresses)
     if way.before == way.after:
         return lines + ["            as before %s" % trace_text(way.after, names)]
     return lines + ["            was %s" % trace_text(way.before, names), "            now %s" % trace_text(way.after, names)]
@@ -127,14 +127,14 @@ def _ways(title: str, ways: List[Way], names: Names, is_all: bool, is_whole: boo
     same = [(way.router, trace_text(way.before, names), trace_text(way.after, names)) for way in ways]
     groups = _grouped(((key, way, way.address) for key, way in zip(same, ways)), is_whole)
     parts = [_way(way, addresses, names) for way, addresses in groups]
-    return ([title] if ways else []) + _first(parts, [len(addresses) for _, addresses in groups], is_all)
+    return ([title] if ways else []) + first_of(parts, [len(addresses) for _, addresses in groups], is_all)
 
 
 def _sessions(difference: Difference, names: Names, is_whole: bool) -> List[str]:
     lines = []
     for title, sessions in (("Sessions that went down", difference.down), ("Sessions that came up", difference.up)):
         parts = [["  %s and %s" % (names.shown(one), names.shown(other))] for one, other in sessions]
-        lines += ([title] if parts else []) + _first(parts, [1] * len(parts), is_whole)
+        lines += ([title] if parts else []) + first_of(parts, [1] * len(parts), is_whole)
     return lines
 
 
@@ -142,10 +142,10 @@ def _sent(sent: Sent, names: Names, is_all: bool, is_whole: bool) -> List[str]:
     """What a line of the change sent at once."""
     told = [(way, message_text(message).split(" ", 2)) for way, messages in sent.messages.items() for message in messages]
     groups = _grouped((((way, words[0], " ".join(words[2:])), (way, words), words[1]) for way, words in told), is_whole)
-    parts = [_listed("            %s to %s: %s " % (*map(names.shown, way), words[0]), prefixes, "".join(" " + word for word in words[2:]))
+    parts = [listed("            %s to %s: %s " % (*map(names.shown, way), words[0]), prefixes, "".join(" " + word for word in words[2:]))
              for (way, words), prefixes in groups]
     counts = [len(prefixes) for _, prefixes in groups]
-    return ["  line %d, %s" % (sent.line.number, " ".join(sent.line.words))] + _first(parts, counts, is_all, " " * 12 + "and %d more")
+    return ["  line %d, %s" % (sent.line.number, " ".join(sent.line.words))] + first_of(parts, counts, is_all, " " * 12 + "and %d more")
 
 
 def _between(outcome: Outcome, names: Names, is_all: bool, is_whole: bool) -> List[str]:
@@ -156,7 +156,7 @@ def _between(outcome: Outcome, names: Names, is_all: bool, is_whole: bool) -> Li
         parts = [["  %s: %s to %s, from line %d until line %d: %s" % (
             each.kind, names.shown(each.sender), names.shown(each.receiver), each.line.number, each.until.number, message_text(each.message))]
             for each in outcome.passing]
-        lines += ["In between, for a while only"] + _first(parts, [1] * len(parts), is_all)
+        lines += ["In between, for a while only"] + first_of(parts, [1] * len(parts), is_all)
         lines += ["  to avoid it: " + text for text in advice(outcome.passing, outcome.network)]
     return lines
 
@@ -173,22 +173,35 @@ def _orders(outcome: Outcome, names: Names) -> List[str]:
     return lines + ["With the change: %s." % converged_otherwise(done, names) for done in outcome.done if done.first]
 
 
-def text_of(outcome: Outcome, is_all: bool) -> str:
-    """The outcome for a reader. Where it is long, equal changes are told as one, and of much of a kind the first; not where all is asked for."""
-    difference, names = outcome.difference, outcome.network.names
+def difference_lines(difference: Difference, names: Names, is_all: bool) -> List[str]:
+    """What differs. Where it is long, a summary comes first, equal changes are told as one, and of much of a kind the
+    first; not where all is asked for."""
     is_whole = is_all or not is_long(difference)
     lines = summary(difference) if is_long(difference) else []
+    lines += ["Router %s (gone)" % names.shown(router) for router in difference.gone]
     lines += _routers(difference, names, is_whole) + _sessions(difference, names, is_whole) + _told(difference, names, is_whole)
     lines += _ways("Forwarding that was asked for", difference.asked, names, True, True)
     special = {(way.router, way.address) for way in difference.loops + difference.black_holes + difference.asked}
     for title, ways in (("New loops", difference.loops), ("New black holes", difference.black_holes),
                         ("Forwarding that changed", [way for way in difference.ways if (way.router, way.address) not in special])):
         lines += _ways(title, ways, names, is_all, is_whole)
-    lines += _between(outcome, names, is_all, is_whole)
-    lines += [] if outcome.is_changed else ["Nothing changed."]
-    lines += _orders(outcome, names)
+    return lines
+
+
+def convergence_lines(outcome: Outcome, is_all: bool) -> List[str]:
+    """Where another order of deliveries was needed, and what does not converge."""
+    names, lines = outcome.network.names, _orders(outcome, outcome.network.names)
     if outcome.not_converged:
         lines += ["IT DOES NOT CONVERGE: %s." % not_converged(outcome.not_converged, names, is_all), "What is told above is how it stood when the deliveries stopped."]
-    else:
-        lines.append(_messages(outcome))
+    return lines
+
+
+def text_of(outcome: Outcome, is_all: bool) -> str:
+    """The outcome for a reader."""
+    difference, names = outcome.difference, outcome.network.names
+    lines = difference_lines(difference, names, is_all)
+    lines += _between(outcome, names, is_all, is_all or not is_long(difference))
+    lines += [] if outcome.is_changed else ["Nothing changed."]
+    lines += convergence_lines(outcome, is_all)
+    lines += [] if outcome.not_converged else [_messages(outcome)]
     return "\n".join(lines) + "\n"

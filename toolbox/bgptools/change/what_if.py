@@ -51,7 +51,7 @@ def parser() -> argparse.ArgumentParser:
         "differs, router by router."),
         epilog="Exit status: 0 nothing changed; 1 something did, or it does not converge; 2 a mistake, as a line that is refused.")
     made.add_argument("base", metavar="BASE", help="the script of the network; it needs no deliveries")
-    made.add_argument("change", metavar="CHANGE", help="the script of the change; - is standard input")
+    made.add_argument("change", metavar="CHANGE", nargs="?", help="the script of the change; - is standard input")
     made.add_argument("--trace", nargs=2, metavar=("R", "D"), action="append", default=[],
                       help="tell how a packet goes from router R to address D, or that of a router's name; may be given again")
     made.add_argument("--each", action="store_true", help="empty the queues after each command of CHANGE, and not only at its end")

@@ -6,7 +6,7 @@ import os
 
 import jsonschema
 
-from common import EXAMPLES, TOOLBOX, TOP, Case, tool
+from common import DATA, EXAMPLES, TOOLBOX, TOP, Case, tool
 
 from bgptools import (
     Cost, Delivery, Effect, Explanation, InBetween, Message, Network, Reason, Route, RouteChange, Sent, Trace, WayChange)
@@ -62,7 +62,7 @@ class Json(Case):
         return found
 
     def test_each_schema_is_one_of_a_tool_or_of_values(self):
-        tools = ("explain", "play", "converge", "hijack", "sweep", "timeline", "what-if")
+        tools = ("compare-live", "explain", "play", "converge", "hijack", "sweep", "timeline", "what-if")
         self.assertEqual(set(self.judges), {"language.json", "request.json", "values.json"} | {name + ".json" for name in tools})
 
     def test_a_schema_refuses_what_it_does_not_name(self):
@@ -98,7 +98,8 @@ class Json(Case):
             fields = [documents.field_name(each.name) for each in dataclasses.fields(kind)]
             self.assertEqual(list(schema["properties"]), fields, kind.__name__)
         fields = {documents.field_name(each.name) for each in dataclasses.fields(Effect) if each.repr}
-        self.assertEqual(set(what_if["properties"]), fields | {"version", "tool", "base", "change", "names"})
+        self.assertEqual(set(what_if["properties"]), fields | {
+            "version", "tool", "base", "change", "names", "configuration", "left_out", "steps"})
 
     def test_bytes_of_a_script_and_of_a_name_are_shown_as_text_shows_them(self):
         path = os.fsencode(self.folder) + b"/a\xff.bgp"
@@ -152,6 +153,19 @@ class Json(Case):
         text = ("path=%(path)s origin=%(origin)s next=%(next_hop)s med=%(med)s pref=%(preference)s oid=%(originator)s "
                 "clusters=%(clusters)s" % shown)
         return text + (" comms=%(communities)s" % shown if route["communities"] else "")
+
+    def test_two_networks_and_what_leads_from_one_to_the_other(self):
+        found = self.told("what-if", "toolbox/lessons/frr", "toolbox/lessons/bird", "--steps", status=1)
+        self.assertEqual({each["part"] for each in found["configuration"]}, {"med", "policy"})
+        self.assertEqual({each["side"] for each in found["left_out"]}, {"old", "new"})
+        self.assertEqual(found["steps"]["other_routes_at"], [])
+
+    def test_real_routers(self):
+        found = self.told("compare-live", DATA / "live" / "bird" / "answers", "toolbox/lessons/bird", status=1)
+        self.assertEqual(found["agreed"], 1)
+        self.assertEqual([[one["name"] for one in each["attributes"]] for each in found["differences"]], [
+            ["path", "MED", "preference", "communities"]])
+        self.assertEqual([each["prefix"] for each in found["unknown"]], ["198.51.100.0/24"])
 
     def test_a_timeline_tells_what_its_csv_does(self):
         script = self.file("replay.bgp", "# name 1.0.0.1 one\nrouter 1.0.0.1 1\n# time 2026-12-01T12:00:00Z\n"

@@ -210,6 +210,7 @@ def _interface(config: BirdConfig, item: Item, area: Dict[str, Said]) -> None:
         said = resolved(config, each)
         if re.fullmatch("cost [0-9]+", said) and number(said[5:], 1, 65535) is not None:
             cost = int(said[5:])
+            settings.said["cost"] = (said[5:], each.line)
         elif re.fullmatch("stub" + SWITCH, said):
             is_stub = each.texts[-1] not in OFF
         elif not settings.take(each, said):

@@ -28,8 +28,8 @@ def listed(names: Sequence[str], shown: int = 1) -> str:
 def report(network: Network, told: List[Told], is_strict: bool, lists_all: bool = False) -> int:
     """Tells what is not taken over, and counts what decides no route; the exit status. `lists_all`: nothing is
     shortened."""
-    told = told + [each for config in network.read for each in sorted(config.told)]
-    for text in _texts(sorted(told, key=_rank), _names(network), lists_all):
+    told = all_told(network, told)
+    for text in texts(network, told, lists_all):
         print(text, file=sys.stderr)
     counts: "Counter[str]" = sum((config.counts for config in network.read), Counter())
     if counts:
@@ -40,6 +40,21 @@ def report(network: Network, told: List[Told], is_strict: bool, lists_all: bool 
         print("nothing is written, since --strict treats each reported line as an error", file=sys.stderr)
         return WRONG
     return CHANGED if any(each.decides for each in told) else 0
+
+
+def all_told(network: Network, told: List[Told]) -> List[Told]:
+    """What is told of the files as a whole, and of the lines of each router."""
+    return told + [each for config in network.read for each in sorted(config.told)]
+
+
+def texts(network: Network, told: List[Told], lists_all: bool) -> List[str]:
+    """What is told, each with its file and line: first what is sure to decide a route, notes last."""
+    return _texts(sorted(told, key=_rank), _names(network), lists_all)
+
+
+def whole(text: str) -> str:
+    """A text that is told, with whole lists and with addresses as they are."""
+    return _shown(text, {}, True)
 
 
 def _rank(each: Told) -> int:

@@ -274,6 +274,7 @@ def _cost(config: Config, interface: Interface, line: Line, cost: str) -> Option
     if number(cost, 1, 65535) is None:
         return False
     interface.cost, interface.has_cost = int(cost), True
+    interface.said["cost"] = (cost, line)
     return None
 
 
@@ -283,6 +284,7 @@ def _isis_metric(config: Config, interface: Interface, line: Line, cost: str) ->
 
 def _shutdown(config: Config, interface: Interface, line: Line, no: Optional[str]) -> None:
     interface.is_down = not no
+    interface.said["shutdown"] = (no or "", line)
 
 
 def _interior(config: Config, interface: Interface, line: Line, area: Optional[str],
