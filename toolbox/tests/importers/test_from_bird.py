@@ -288,7 +288,7 @@ class Filters(Made):
                                 ("(1,*) ~ bgp_community", "any number at all"),
                                 ("net ~ [ 0.0.0.0/0{0,24} ]", "lengths 0 to 24"),
                                 ("roa_check(t)", "`roa_check`"), ("bgp_origin = ORIGIN_IGP", "`bgp_origin`"),
-                                ("net ~ 10.0.0.0/8 && bgp_path ~ [= * 7 * =]", "at once"),
+                                ("(1,2) ~ bgp_community && bgp_path ~ [= * 7 * =]", "at once"),
                                 ("some_name", "`some_name`")):
             with self.subTest(condition=condition):
                 made = self.network("filter { if %s then reject; accept; }" % condition, status=1)

@@ -2,7 +2,7 @@
 rules."""
 from __future__ import annotations
 
-from typing import Any, List, NamedTuple, Tuple
+from typing import Any, Collection, List, NamedTuple, Optional, Tuple
 
 from ...program.language import address, contains
 from ..common.configuration import NOWHERE, Item, Prefix, masked
@@ -110,11 +110,19 @@ def _is_met(net: Net, pattern: Pattern) -> bool:
     return has_length and masked(net.value, common) == masked(pattern.where.value, common)
 
 
-def prefixes(wanted: Any) -> Region:
-    """What a prefix, or a set of patterns, is about; raises Unsayable."""
+def prefixes(wanted: Any, known: Optional[Collection[Prefix]]) -> Tuple[Region, bool]:
+    """What a prefix, or a set of patterns, is about, and whether that is exact for the prefixes alone that can occur,
+    which are named one by one; raises Unsayable. `known`: these prefixes, where they are known."""
     if isinstance(wanted, Net):
-        return [(under(masked(*wanted)), True)] + NOTHING
-    return [(match, True) for each in wanted.elements for match in _matches(_pattern(each))] + NOTHING
+        return [(under(masked(*wanted)), True)] + NOTHING, False
+    patterns = [_pattern(each) for each in wanted.elements]
+    try:
+        return [(match, True) for each in patterns for match in _matches(each)] + NOTHING, False
+    except Unsayable:
+        if known is None:
+            raise
+    return [(is_(where), True) for where in sorted(known) if any(_is_met(Net(*where), each) for each in patterns)] + \
+        NOTHING, True
 
 
 def _matches(pattern: Pattern) -> List[Match]:
