@@ -6,7 +6,7 @@ Rules cannot say `not`, so the prefixes outside of some are spelled out: in gene
 """
 from __future__ import annotations
 
-from typing import Any, Collection, Dict, Iterator, List, NamedTuple, Optional, Sequence, Set, Tuple
+from typing import Any, Callable, Collection, Dict, Iterator, List, NamedTuple, Optional, Sequence, Set, Tuple
 
 from ...program.language import contains
 from .policy import (
@@ -57,7 +57,7 @@ class TooMany(Unsayable):
     """There is a list of rules, and it is too long."""
 
 
-class _Choice(NamedTuple):
+class Choice(NamedTuple):
     """Matches that can stand next: the kinds of routes that one of them is about. `outside_of` is the prefix whose
     part outside of others they are, which is spelled out when it is taken."""
     where: int
@@ -156,32 +156,39 @@ class Kinds:
             self.of_match[match] = self._prefix_mask(match)
         return self.of_match[match]
 
-    def _choices(self) -> List[_Choice]:
+    def _choices(self) -> List[Choice]:
         """All that can stand next, what takes fewest rules first."""
-        found = [_Choice(mask * self.every, group) for group, mask in self.masks]
-        found += [_Choice(self._mask(each), (each,)) for each in map(under, self.whole) if each != ANY]
-        found += [_Choice(self._mask(each), (each,)) for each in map(is_, self.single)]
+        found = [Choice(mask * self.every, group) for group, mask in self.masks]
+        found += [Choice(self._mask(each), (each,)) for each in map(under, self.whole) if each != ANY]
+        found += [Choice(self._mask(each), (each,)) for each in map(is_, self.single)]
         found.sort(key=lambda each: len(each.matches))
-        return found + [_Choice(self.row << self.width * at, (), where)
+        return found + [Choice(self.row << self.width * at, (), where)
                         for at, (is_single, where) in enumerate(self.classes) if not is_single]
 
     def listed(self, wanted: Dict[Value, int]) -> Rules[Value]:
         """The rules that have the values that are wanted of each kind of routes; raises Unsayable."""
-        left, made, choices = self.all, [], self._choices()  # type: int, Rules[Value], List[_Choice]
-        while True:
-            alike = _value_of(left, wanted)
-            if alike:
-                return made + [(ANY, alike[0])]
-            taken = next(((each, value) for each in choices if each.where & left
-                          for value in _value_of(each.where & left, wanted)), None)
-            if taken is None:
-                raise Unsayable("these matches together")
-            choice, value = taken
-            matches = choice.matches if choice.outside_of is None else self._outside(choice.outside_of)
-            made += [(match, value) for match in matches]
-            if len(made) >= MOST_RULES:
-                raise TooMany("these matches together")
-            left &= ~choice.where
+        return listed(self.all, wanted, self._choices(), self._outside)
+
+
+def listed(kinds: int, wanted: Dict[Value, int], choices: Sequence[Choice],
+           spelled: Callable[[Prefix], List[Match]]) -> Rules[Value]:
+    """Rules of these choices that have the values that are wanted of kinds of routes; `spelled` gives the matches of a
+    choice that is outside of prefixes. Raises Unsayable, TooMany."""
+    left, made = kinds, []  # type: int, Rules[Value]
+    while True:
+        alike = _value_of(left, wanted)
+        if alike:
+            return made + [(ANY, alike[0])]
+        taken = next(((each, value) for each in choices if each.where & left
+                      for value in _value_of(each.where & left, wanted)), None)
+        if taken is None:
+            raise Unsayable("these matches together")
+        choice, value = taken
+        matches = choice.matches if choice.outside_of is None else spelled(choice.outside_of)
+        made += [(match, value) for match in matches]
+        if len(made) >= MOST_RULES:
+            raise TooMany("these matches together")
+        left &= ~choice.where
 
 
 def _value_of(where: int, wanted: Dict[Value, int]) -> List[Value]:

@@ -8,6 +8,7 @@ from ...program.language import contains
 from ..common.configuration import Config, Item, Line, short
 from ..common.decision_lists import decided
 from ..common.expressions import finds_nothing
+from ..common.paths import occurring_region
 from ..common.policy import ANY, NOTHING, Prefix, Region, Unsayable, shortened
 from ..common.regions import EXACT_FOR, Place, World, path_region, prefix_region
 from .communities import check_exact, each_of, is_about_none, matches_of, region_of_any
@@ -63,7 +64,7 @@ def _with_item(config: Config, item: Item, kind: str, region: Region, world: Wor
         if not is_closed:
             return [(match, item.is_permit) for match, is_in in said if is_in] + region
         return decided([said], [(ANY, item.is_permit)], region, known)[0]
-    said = path_region(item.said, world, place)
+    said = _path_region(config, item, world, place)
     if all(is_in for _, is_in in said):
         return [(match, item.is_permit) for match, _ in said] + region
     # A route with no AS in its path is met by none of the matches that ask for one, so these may stand first.
@@ -73,6 +74,19 @@ def _with_item(config: Config, item: Item, kind: str, region: Region, world: Wor
     if is_closed:
         tell_closed(config, item.line, known or ())
     return region[:asking] + behind
+
+
+def _path_region(config: Config, item: Item, world: World, place: Place) -> Region:
+    """What an entry of an as-path list is about, of all paths or of those that can occur; raises Unsayable."""
+    try:
+        return path_region(item.said, world, place)
+    except Unsayable as reason:
+        try:
+            found = occurring_region(item.said, world, place)
+        except Unsayable:
+            raise reason from None
+    tell_closed(config, item.line, world.prefixes(place) or ())
+    return found
 
 
 def tell_closed(config: Config, line: Line, known: Collection[Prefix]) -> None:
