@@ -2,6 +2,7 @@
 the router's own."""
 from __future__ import annotations
 
+import contextlib
 from typing import Any, Callable, Dict, List, NamedTuple, Optional, Tuple
 
 from ...program.language import SETTING_NAMES, show_address
@@ -9,12 +10,16 @@ from ...program.mistakes import Mistake
 from ..common.configuration import Line, short
 from ..common.decision_lists import decided
 from ..common.expressions import names_like
+from ..common.paths import occurring_region
 from ..common.policy import ALL, ANY, DENY, NOTHING, Action, Match, Region, Rules, Unsayable, shortened
 from ..common.regions import EXACT_FOR, Place, World, path_region
 from ..common.route_settings import NO_NEIGHBOUR, unset
 from .configuration import BirdConfig, OwnRoute, Policy, Session
 from .filters import Net, Node, Span
-from .values import Mask, Pair, SetOf, Symbol, always, as_told, communities_in, is_in, prefixes, reckoned, spread
+from .values import (
+    Mask, Pair, SetOf, Symbol, always, as_told, communities_in, expression_of_last, expression_of_mask, is_in, prefixes,
+    reckoned, spread
+)
 
 # So many statements at most are followed, over all ways through a filter, and so many parts of expressions.
 MOST_STEPS, MOST_VALUES = 20000, 500000
@@ -280,7 +285,7 @@ class Evaluation:
         if isinstance(left, Symbol):
             return self._of_symbol(sign, left.name, right, state, line)
         if isinstance(right, Symbol):
-            return self._inside(left, right, state)
+            return self._inside(left, right, state, line)
         if sign == "~":
             return always(is_in(left, right))
         if sign == "=":
@@ -289,12 +294,12 @@ class Evaluation:
             return always({"<": left < right, ">": left > right, "<=": left <= right, ">=": left >= right}[sign])
         raise Unsayable("%s and %s compared" % (as_told(left), as_told(right)))
 
-    def _inside(self, left: Any, right: Symbol, state: State) -> Region:
+    def _inside(self, left: Any, right: Symbol, state: State, line: Line) -> Region:
         """Whether a route has an AS or a community."""
         if right.name == "bgp_community" and isinstance(left, Pair):
             return self._of_community(SetOf((left,)), state)
         if right.name == "bgp_path" and isinstance(left, int):
-            return self._of_path(SetOf((left,)), state)
+            return self._of_path(SetOf((left,)), state, line)
         raise Unsayable(as_told(right))
 
     def _of_symbol(self, sign: str, name: str, right: Any, state: State, line: Line) -> Region:
@@ -306,7 +311,9 @@ class Evaluation:
                 self._tell_closed(line)
             return region
         if name == "bgp_path" and sign == "~" and isinstance(right, (Mask, SetOf)):
-            return self._of_path(right, state)
+            return self._of_path(right, state, line)
+        if name == "bgp_path.last" and sign in ("=", "~") and not state.value("prepend"):
+            return self._occurring(expression_of_last(right), line, "the last AS of a path")
         if name == "bgp_path.first" and sign in ("=", "~"):
             return self._of_first(right if sign == "~" else SetOf((right,)), state)
         if name == "bgp_community" and sign == "~":
@@ -315,7 +322,16 @@ class Evaluation:
             return self._of_protocol(right)
         raise Unsayable("%s: %s" % (as_told(Symbol(name)), RULES_MATCH))
 
-    def _of_path(self, wanted: Any, state: State) -> Region:
+    def _occurring(self, expression: str, line: Line, about: str) -> Region:
+        """What an expression finds of the paths that can occur; raises Unsayable about these paths."""
+        try:
+            found = occurring_region(expression, self.world, self.place)
+        except Unsayable:
+            raise Unsayable(about) from None
+        self._tell_closed(line)
+        return found
+
+    def _of_path(self, wanted: Any, state: State, line: Line) -> Region:
         if state.value("prepend"):
             raise Unsayable("a path into which the filter has put something")
         if isinstance(wanted, SetOf):
@@ -330,9 +346,10 @@ class Evaluation:
             wanted = inside[0] if isinstance(inside[0], SetOf) else SetOf((inside[0],))
             return self._some(wanted, "path" if stars[0] else "first")
         if len(inside) == 1 and stars == (False,) and isinstance(inside[0], int):
-            return path_region("^%d$" % inside[0], self.world, self.place)
-        raise Unsayable("other paths than those with an AS, `[= * N * =]`, with a first one, `[= N * =]`, with none, "
-                        "`[= =]`, or one alone, `[= N =]`")
+            with contextlib.suppress(Unsayable):
+                return path_region("^%d$" % inside[0], self.world, self.place)
+        return self._occurring(expression_of_mask(wanted), line, "other paths than those with an AS, `[= * N * =]`, "
+                               "with a first one, `[= N * =]`, with none, `[= =]`, or one alone, `[= N =]`")
 
     def _of_first(self, wanted: Any, state: State) -> Region:
         if state.value("prepend"):

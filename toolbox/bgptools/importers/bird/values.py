@@ -134,3 +134,22 @@ def _matches(pattern: Pattern) -> List[Match]:
         item = Item(True, NOWHERE, masked(value, length), max(pattern.least, length), pattern.most)
         found += prefix_matches(item)
     return found
+
+
+def expression_of_mask(mask: Mask) -> str:
+    """A mask of paths as an expression of POSIX; raises Unsayable."""
+    parts = [{"*": "((^| )[0-9]+)*", "?": "(^| )[0-9]+"}.get(each, "") if isinstance(each, str) else
+             "(^| )" + _any_of(each) for each in mask.elements]
+    if "" in parts:
+        raise Unsayable("this mask of paths")
+    return "^%s$" % "".join(parts)
+
+
+def expression_of_last(wanted: Any) -> str:
+    """Paths that end with an AS, or with one of a set; raises Unsayable."""
+    return "(^| )%s$" % _any_of(wanted)
+
+
+def _any_of(wanted: Any) -> str:
+    elements = wanted.elements if isinstance(wanted, SetOf) else (wanted,)
+    return "(%s)" % "|".join(str(asn) for each in elements for asn in spread(each, 1))
