@@ -104,8 +104,8 @@ class Drawn(Told):
                 found += [" set metric %d" % med] if med is not None else []
                 found += [" call " + called] if called else []
                 if target is not None and is_permit:
-                    found.append((" on-match next", " continue")[number // 10 % 2] if not target else
-                                 (" on-match goto %d", " continue %d")[number // 10 % 2] % target)
+                    found.append((" on-match goto %d", " continue %d")[number // 10 % 2] % target if target
+                                 else " on-match next")
         return found
 
     def permits(self, entries, prefix):
@@ -120,12 +120,13 @@ class Drawn(Told):
 
     def mapped(self, lists, maps, name, route, state):
         """Whether a map permits a route; it sets what it says in the state. An entry that permits and goes on leaves the
-        route permitted where no other decides; what a called map denies is denied."""
+        route permitted where none is behind it; what a called map denies is denied."""
         entries, at_entry, is_permitted = maps[name], 0, False
         while at_entry < len(entries):
             _, is_permit, about, community, med, called, target = entries[at_entry]
             at_entry += 1
             if about and not self.permits(lists[about], route[0]) or community and community not in route[1]:
+                is_permitted = False
                 continue
             if not is_permit:
                 return False
@@ -247,7 +248,7 @@ class Goes(Told):
     """Maps that go on: what is no entry, and what is set together."""
 
     def test_what_frr_does_not_take(self):
-        for line in ("on-match goto 10", "continue 5", "on-match goto 70000"):
+        for line in ("on-match goto 10", "continue 5", "on-match goto 70000", "continue"):
             self.assertEqual(self.in_rules("route-map M permit 10", " set metric 5", " " + line), ["any permit med=5"])
             self.assertIn("does not take the line", self.policy("route-map M permit 10", " " + line).stderr)
 
@@ -260,7 +261,7 @@ class Goes(Told):
                          ["any permit med=5 add=%d" % (65000 * 65536 + 1)])
         made = self.policy(*first, " set community 65000:2 additive", " set metric 5", status=1)
         self.assert_told(made, "a.conf", at(self.text, "route-map M permit 20"), "two communities")
-        made = self.policy(first[1], "route-map M permit 10", " set as-path prepend 65001", " continue",
+        made = self.policy(first[1], "route-map M permit 10", " set as-path prepend 65001", " continue 20",
                            "route-map M permit 20", " match as-path P", filters=["route-map M out"], status=1)
         self.assert_told(made, "a.conf", at(self.text, "route-map M permit 20"), "put something")
 

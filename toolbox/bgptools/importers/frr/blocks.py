@@ -515,9 +515,9 @@ def _goes_on(config: Config, entry: Entry, line: Line, following: Optional[str],
              further: Optional[str]) -> None:
     said = target or further
     at = number(said, entry.sequence + 1, 65535) if said else entry.sequence + 1
-    if at is None or not entry.is_permit:
-        config.tell(line, "%s: FRR goes on from `permit` alone, to a higher number, and does not take the line" %
-                    line.text, False)
+    if at is None or not entry.is_permit or not said and not following:
+        config.tell(line, "%s: FRR goes on from `permit` alone, by `on-match next` or to a higher number, and does not "
+                    "take the line" % line.text, False)
         return
     entry.goes_on = at
 

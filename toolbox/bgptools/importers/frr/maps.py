@@ -31,7 +31,7 @@ def _sorted(config: Config, name: str) -> List[Entry]:
 
 
 class _State(NamedTuple):
-    """What entries have set until here, and whether one has permitted the route and gone on."""
+    """What entries have set until here, and whether the last one has permitted the route and gone on."""
     settings: Tuple[Tuple[str, str], ...] = ()
     is_permitted: bool = False
 
@@ -55,7 +55,10 @@ class _Walk:
     def behind(self, entries: List[Entry], at: int, state: _State, end: _End, depth: int) -> Rules[Action]:
         """The rules of the entries from one on; `end` are those behind the map where it permits, and `depth` is how
         many maps have called it."""
-        rules = end(state) if state.is_permitted else [(ANY, DENY)]
+        if at >= len(entries):
+            return end(state) if state.is_permitted else [(ANY, DENY)]
+        # What a further entry does not match is denied, though one before has permitted it.
+        rules: Rules[Action] = [(ANY, DENY)]
         for where in range(len(entries) - 1, at - 1, -1):
             rules = self._with_entry(entries, where, state, rules, end, depth)
         return rules
