@@ -47,7 +47,7 @@ def update(me: str, route: Route) -> bytes:
     attributes += attribute(0x40, 3, socket.inet_aton(me))
     if route["med"] is not None:
         attributes += attribute(0x80, 4, struct.pack("!I", route["med"]))
-    if route["comms"]:
+    if route.get("comms"):
         # COMMUNITIES (RFC 1997)
         attributes += attribute(0xc0, 8, struct.pack("!%dI" % len(route["comms"]), *route["comms"]))
     address, length = route["prefix"].split("/")

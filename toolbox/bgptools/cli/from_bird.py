@@ -6,7 +6,7 @@ import sys
 from typing import List, Optional
 
 from ..importers.bird.translation import BirdTranslation, configs_of, network_of
-from ..importers.common.report import report
+from ..importers.common.report import add_unsaid, report
 from ..program import output
 from ..program.mistakes import WRONG
 
@@ -28,6 +28,7 @@ def parser() -> argparse.ArgumentParser:
     made.add_argument("paths", metavar="FILE", nargs="+", help="a router's file, or a folder of them")
     made.add_argument("-o", dest="out", metavar="FILE", help="write to this file, and not to standard output")
     made.add_argument("--strict", action="store_true", help="treat each reported line as an error")
+    add_unsaid(made)
     made.add_argument("--all", action="store_true", dest="lists_all", help="report every line, and whole lists")
     return made
 
@@ -38,7 +39,7 @@ def main(words: Optional[List[str]] = None) -> int:
     sys.setrecursionlimit(max(DEEP, sys.getrecursionlimit()))
     configs, told = configs_of(chosen.paths)
     network = network_of(configs, told)
-    translation = BirdTranslation(network)
+    translation = BirdTranslation(network, chosen.unsaid)
     status = report(network, told, chosen.strict, chosen.lists_all)
     if status != WRONG:
         output.write("".join(line + "\n" for line in translation.lines), chosen.out)

@@ -4,7 +4,7 @@ from __future__ import annotations
 import argparse
 from typing import List, Optional
 
-from ..importers.common.report import report
+from ..importers.common.report import add_unsaid, report
 from ..importers.frr.translation import FrrTranslation, configs_in, network_of
 from ..program import output
 from ..program.mistakes import WRONG
@@ -25,6 +25,7 @@ def parser() -> argparse.ArgumentParser:
     made.add_argument("directory", metavar="DIRECTORY", help="the files, or a folder a router")
     made.add_argument("-o", dest="out", metavar="FILE", help="write to this file, and not to standard output")
     made.add_argument("--strict", action="store_true", help="treat each reported line as an error")
+    add_unsaid(made)
     made.add_argument("--all", action="store_true", dest="lists_all", help="report every line, and whole lists")
     return made
 
@@ -34,7 +35,7 @@ def main(words: Optional[List[str]] = None) -> int:
     chosen = parser().parse_args(words)
     configs, told = configs_in(chosen.directory)
     network = network_of(configs, told, chosen.directory)
-    translation = FrrTranslation(network)
+    translation = FrrTranslation(network, chosen.unsaid)
     status = report(network, told, chosen.strict, chosen.lists_all)
     if status != WRONG:
         output.write("".join(line + "\n" for line in translation.lines), chosen.out)

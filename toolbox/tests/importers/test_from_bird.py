@@ -33,13 +33,13 @@ FIRST = ONE % ("", "", "all", "where source = RTS_BGP")
 class Made(Case):
     """What is made of single settings."""
 
-    def convert(self, *texts, status=None):
+    def convert(self, *texts, status=None, words=()):
         """from-bird on files a.conf, b.conf and so on."""
         self.count = getattr(self, "count", 0) + 1
         place = self.folder / str(self.count)
         for name, text in zip("abcd", texts):
             self.file("%d/%s.conf" % (self.count, name), text)
-        made = inside("from-bird", place)
+        made = inside("from-bird", place, *words)
         made.stderr = made.stderr.replace(str(place) + "/", "")
         if status is not None:
             self.assertEqual(made.returncode, status, made.stderr)
@@ -288,12 +288,42 @@ class Filters(Made):
                                 ("(1,*) ~ bgp_community", "any number at all"),
                                 ("net ~ [ 0.0.0.0/0{0,24} ]", "lengths 0 to 24"),
                                 ("roa_check(t)", "`roa_check`"), ("bgp_origin = ORIGIN_IGP", "`bgp_origin`"),
-                                ("net ~ 10.0.0.0/8 && bgp_path ~ [= * 7 * =]", "at once"),
+                                ("(1,2) ~ bgp_community && bgp_path ~ [= * 7 * =]", "at once"),
                                 ("some_name", "`some_name`")):
             with self.subTest(condition=condition):
                 made = self.network("filter { if %s then reject; accept; }" % condition, status=1)
                 self.assert_told(made, "a.conf:%d" % LINE, said, "as if it did not hold")
                 self.assertEqual(self.rules(made), [])
+
+    def test_where_all_origins_are_known(self):
+        """AS 65002 originates two prefixes, and no other AS is behind it."""
+        out = OUT + "protocol static { ipv4; route 192.0.2.0/24 blackhole; route 198.51.100.128/25 blackhole; }\n"
+        for condition, rules in (("net ~ [ 0.0.0.0/0{0,24} ]", ["is 192.0.2.0/24 deny", "any permit"]),
+                                 ("net !~ [ 0.0.0.0/0{0,24} ]", ["is 192.0.2.0/24 permit", "any deny"]),
+                                 ("bgp_path.last = 65002", ["any deny"]), ("bgp_path.last ~ [ 1..5 ]", []),
+                                 ("bgp_path ~ [= ? =]", ["any deny"]), ("bgp_path ~ [= 65002 ? * =]", [])):
+            with self.subTest(condition=condition):
+                made = self.network("filter { if %s then reject; accept; }" % condition, out=out)
+                self.assertEqual(self.rules(made), rules)
+                self.assert_told(made, "a.conf:%d" % LINE, "exact for the 2 prefixes", kind="note")
+
+    def test_a_prefix_and_a_community(self):
+        found = self.imported("net ~ 10.0.0.0/8 && (65002,70) ~ bgp_community")
+        self.assertEqual(found[-2:], ["comm %d deny" % (65002 * 65536 + 70), "any permit"])
+        self.assertEqual(sorted(found[:-2]), sorted(
+            ["is %s permit" % each for each in ("0.0.0.0/0", "0.0.0.0/1", "0.0.0.0/2", "0.0.0.0/3", "0.0.0.0/4", "8.0.0.0/5",
+                                                "8.0.0.0/6", "10.0.0.0/7")] +
+            ["under %s permit" % each for each in ("128.0.0.0/1", "64.0.0.0/2", "32.0.0.0/3", "16.0.0.0/4", "0.0.0.0/5",
+                                                   "12.0.0.0/6", "8.0.0.0/7", "11.0.0.0/8")]))
+
+    def test_what_cannot_be_said(self):
+        for word, rules in (("skip", []), ("deny", ["any deny"]), ("permit", ["any permit pref=90"])):
+            given = ("--unsaid", word)
+            made = self.convert(ONE % ("", "", "filter { bgp_local_pref = 90; if bgp_path.len > 9 then reject; accept; }",
+                                       "all"), TWO, OUT, words=given, status=1)
+            self.assertEqual(self.rules(made), rules or ["any permit pref=90"])
+            self.assert_told(made, "a.conf:%d" % LINE, "the length of a path", "as if it did not hold" if word == "skip" else
+                             "`--unsaid %s`" % word)
 
     def test_settings(self):
         for body, rules in (

@@ -2,6 +2,7 @@
 import itertools
 import random
 import re
+from ipaddress import ip_network
 
 from frr import OUTSIDE, Told, at, border, inner, router
 
@@ -112,10 +113,9 @@ class Lists(Told):
         """The number of a community may be that of an AS, and is not one."""
         lists = ["bgp community-list standard L permit 0:7", "bgp as-path access-list P permit _7_",
                  "ip prefix-list Q permit 10.0.0.0/8"]
-        for match in ("as-path P", "ip address prefix-list Q"):
-            made = self.policy(*lists, *MAP, " match " + match, "route-map M permit 20", status=1)
-            self.assert_told(made, "a.conf", at(self.text, "route-map M permit 10"), "at once")
-            self.assertEqual(self.rules(made, "10.0.0.1 10.0.0.9 in"), ["any permit"])
+        made = self.policy(*lists, *MAP, " match as-path P", "route-map M permit 20", status=1)
+        self.assert_told(made, "a.conf", at(self.text, "route-map M permit 10"), "at once")
+        self.assertEqual(self.rules(made, "10.0.0.1 10.0.0.9 in"), ["any permit"])
         self.assertEqual(self.in_rules(*lists, *MAP, "route-map M permit 20", " match as-path P"),
                          ["comm 7 permit med=5", "path 7 permit", "any deny"])
 
@@ -352,7 +352,8 @@ class Maps(Told):
         """What rules make of it."""
         for rule in rules:
             words = rule.split(" ")
-            is_met = {"any": lambda: True, "comm": lambda: int(words[1]) in carried, "is": lambda: words[1] == prefix}
+            is_met = {"any": lambda: True, "comm": lambda: int(words[1]) in carried, "is": lambda: words[1] == prefix,
+                      "under": lambda: ip_network(prefix).subnet_of(ip_network(words[1]))}
             if is_met[words[0]]():
                 said = dict(word.split("=") for word in words if "=" in word)
                 added = {int(said["add"])} if "add" in said else set()

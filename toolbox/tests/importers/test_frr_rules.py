@@ -192,10 +192,14 @@ class Policies(Told):
         self.assertEqual(self.in_rules(*lists, "route-map M permit 10", " match ip address prefix-list A",
                                        " match ip address B", " set metric 5"),
                                        ["under 10.1.0.0/16 permit med=5", "any deny"])
-        made = self.policy(*lists, "route-map M permit 10", " match ip address prefix-list A", " match as-path P",
-                           "route-map M permit 20", status=1)
-        self.assert_told(made, "a.conf", at(self.text, "route-map M permit 10"), "go on to the next entry")
-        self.assertEqual(self.rules(made, "10.0.0.1 10.0.0.9 in"), ["any permit"])
+        found = self.in_rules(*lists, "route-map M permit 10", " match ip address prefix-list A", " match as-path P",
+                              "route-map M permit 20", " set metric 7")
+        self.assertEqual(found[-2:], ["path 7 permit", "any permit med=7"])
+        self.assertEqual({where for where in ("9.0.0.0/8", "11.0.0.0/8", "8.0.0.0/5", "10.0.0.0/7", "0.0.0.0/0")
+                          if permitted_as(found[:-2], number_of(where)) == "permit med=7"},
+                         {"9.0.0.0/8", "11.0.0.0/8", "8.0.0.0/5", "10.0.0.0/7", "0.0.0.0/0"})
+        self.assertIsNone(permitted_as(found[:-2], number_of("10.0.0.0/8")))
+        self.assertIsNone(permitted_as(found[:-2], number_of("10.7.0.0/16")))
 
     def test_lists_that_deny(self):
         lists = ["ip prefix-list A seq 10 permit 10.0.0.0/8 le 32", "ip prefix-list A seq 5 deny 10.1.0.0/16"]
@@ -385,6 +389,17 @@ def permitted(rules, where):
         if kind == "any" or kind == "under" and is_inside or kind == "is" and where == (value, length):
             return rest[-1] == "permit"
     return True
+
+
+def permitted_as(rules, where):
+    """What rules about prefixes do with one; nothing where none of them is about it."""
+    for rule in rules:
+        kind, prefix, *action = rule.split(" ")
+        value, length = number_of(prefix)
+        is_inside = where[1] >= length and where[0] >> (32 - length) == value >> (32 - length)
+        if kind == "under" and is_inside or kind == "is" and where == (value, length):
+            return " ".join(action)
+    return None
 
 
 def listed(entries, where):

@@ -2,18 +2,24 @@
 the router's own."""
 from __future__ import annotations
 
+import contextlib
 from typing import Any, Callable, Dict, List, NamedTuple, Optional, Tuple
 
 from ...program.language import SETTING_NAMES, show_address
 from ...program.mistakes import Mistake
 from ..common.configuration import Line, short
+from ..common.decision_lists import decided
 from ..common.expressions import names_like
-from ..common.policy import ALL, ANY, DENY, NOTHING, Action, Match, Region, Rules, Unsayable, chosen, shortened
-from ..common.regions import Place, World, path_region
+from ..common.paths import occurring_region
+from ..common.policy import ALL, ANY, DENY, NOTHING, Action, Match, Region, Rules, Unsayable, shortened
+from ..common.regions import EXACT_FOR, Place, World, path_region
 from ..common.route_settings import NO_NEIGHBOUR, unset
 from .configuration import BirdConfig, OwnRoute, Policy, Session
 from .filters import Net, Node, Span
-from .values import Mask, Pair, SetOf, Symbol, always, as_told, communities_in, is_in, prefixes, reckoned, spread
+from .values import (
+    Mask, Pair, SetOf, Symbol, always, as_told, communities_in, expression_of_last, expression_of_mask, is_in, prefixes,
+    reckoned, spread
+)
 
 # So many statements at most are followed, over all ways through a filter, and so many parts of expressions.
 MOST_STEPS, MOST_VALUES = 20000, 500000
@@ -61,6 +67,7 @@ class Evaluation:
                  count_of: Callable[[int], int], own: Optional[OwnRoute] = None) -> None:
         self.config, self.session, self.place, self.world = config, session, place, world
         self.count_of, self.own = count_of, own
+        self.known = world.prefixes(place)
         self.steps = self.values = 0
 
     def rules(self, policy: Policy) -> Rules[Action]:
@@ -130,15 +137,23 @@ class Evaluation:
         try:
             return self._branch(condition, state, behind)
         except Unsayable as reason:
-            self._tell(node.line, "no rule is about %s; it is left out, as if it did not hold" % reason)
+            return self._unsaid(node, reason, state, behind)
+
+    def _unsaid(self, node: Node, reason: Unsayable, state: State, behind: Branch) -> Rules[Action]:
+        """What comes of a condition that no rule says, and of which the reason is told."""
+        chosen = self.world.unsaid
+        comes = "it is left out, as if it did not hold" if chosen == "skip" else \
+            "`--unsaid %s` %s all that comes to it" % (chosen, {"deny": "rejects", "permit": "accepts"}[chosen])
+        self._tell(node.line, "no rule is about %s; %s" % (reason, comes))
+        if chosen == "skip":
             return behind(state, False)
+        return [(ANY, DENY if chosen == "deny" else self._accepted(state))]
 
     def _returned(self, node: Node, state: State, returned: Branch) -> Rules[Action]:
         try:
             return self._branch(node.of[0], state, returned)
         except Unsayable as reason:
-            self._tell(node.line, "no rule is about %s; it is left out, as if it did not hold" % reason)
-            return returned(state, False)
+            return self._unsaid(node, reason, state, returned)
 
     def _called(self, node: Node, state: State, end: End) -> Rules[Action]:
         """A call whose value is not asked for."""
@@ -245,26 +260,32 @@ class Evaluation:
         region = self._region(node, state)
         if all(holds for _, holds in region) or not any(holds for _, holds in region):
             return then(state, region[0][1])
-        return chosen(region, then(state, True), then(state, False))
+        found, is_closed = decided([region], then(state, True), then(state, False), self.known)
+        if is_closed:
+            self._tell_closed(node.line)
+        return found
+
+    def _tell_closed(self, line: Line) -> None:
+        self._tell(line, EXACT_FOR % len(self.known or ()), False)
 
     def _region(self, node: Node, state: State) -> Region:
         """What a condition is about; raises Unsayable."""
         if node.what == "compare":
             sign, left, right = node.of
-            found = self._met(sign.lstrip("!"), self._value(left, state), self._value(right, state), state)
+            found = self._met(sign.lstrip("!"), self._value(left, state), self._value(right, state), state, node.line)
             return [(match, not holds) for match, holds in found] if sign.startswith("!") else found
         value = self._value(node, state)
         if isinstance(value, bool):
             return always(value)
         raise Unsayable(as_told(value))
 
-    def _met(self, sign: str, left: Any, right: Any, state: State) -> Region:
+    def _met(self, sign: str, left: Any, right: Any, state: State, line: Line) -> Region:
         if isinstance(right, Symbol) and not isinstance(left, Symbol) and sign == "=":
             left, right = right, left
         if isinstance(left, Symbol):
-            return self._of_symbol(sign, left.name, right, state)
+            return self._of_symbol(sign, left.name, right, state, line)
         if isinstance(right, Symbol):
-            return self._inside(left, right, state)
+            return self._inside(left, right, state, line)
         if sign == "~":
             return always(is_in(left, right))
         if sign == "=":
@@ -273,21 +294,26 @@ class Evaluation:
             return always({"<": left < right, ">": left > right, "<=": left <= right, ">=": left >= right}[sign])
         raise Unsayable("%s and %s compared" % (as_told(left), as_told(right)))
 
-    def _inside(self, left: Any, right: Symbol, state: State) -> Region:
+    def _inside(self, left: Any, right: Symbol, state: State, line: Line) -> Region:
         """Whether a route has an AS or a community."""
         if right.name == "bgp_community" and isinstance(left, Pair):
             return self._of_community(SetOf((left,)), state)
         if right.name == "bgp_path" and isinstance(left, int):
-            return self._of_path(SetOf((left,)), state)
+            return self._of_path(SetOf((left,)), state, line)
         raise Unsayable(as_told(right))
 
-    def _of_symbol(self, sign: str, name: str, right: Any, state: State) -> Region:
+    def _of_symbol(self, sign: str, name: str, right: Any, state: State, line: Line) -> Region:
         if name == "net" and sign == "=" and isinstance(right, Net):
-            return prefixes(SetOf((right,)))
+            return prefixes(SetOf((right,)), None)[0]
         if name == "net" and sign == "~" and isinstance(right, (Net, SetOf)):
-            return prefixes(right)
+            region, is_closed = prefixes(right, self.known)
+            if is_closed:
+                self._tell_closed(line)
+            return region
         if name == "bgp_path" and sign == "~" and isinstance(right, (Mask, SetOf)):
-            return self._of_path(right, state)
+            return self._of_path(right, state, line)
+        if name == "bgp_path.last" and sign in ("=", "~") and not state.value("prepend"):
+            return self._occurring(expression_of_last(right), line, "the last AS of a path")
         if name == "bgp_path.first" and sign in ("=", "~"):
             return self._of_first(right if sign == "~" else SetOf((right,)), state)
         if name == "bgp_community" and sign == "~":
@@ -296,7 +322,16 @@ class Evaluation:
             return self._of_protocol(right)
         raise Unsayable("%s: %s" % (as_told(Symbol(name)), RULES_MATCH))
 
-    def _of_path(self, wanted: Any, state: State) -> Region:
+    def _occurring(self, expression: str, line: Line, about: str) -> Region:
+        """What an expression finds of the paths that can occur; raises Unsayable about these paths."""
+        try:
+            found = occurring_region(expression, self.world, self.place)
+        except Unsayable:
+            raise Unsayable(about) from None
+        self._tell_closed(line)
+        return found
+
+    def _of_path(self, wanted: Any, state: State, line: Line) -> Region:
         if state.value("prepend"):
             raise Unsayable("a path into which the filter has put something")
         if isinstance(wanted, SetOf):
@@ -311,9 +346,10 @@ class Evaluation:
             wanted = inside[0] if isinstance(inside[0], SetOf) else SetOf((inside[0],))
             return self._some(wanted, "path" if stars[0] else "first")
         if len(inside) == 1 and stars == (False,) and isinstance(inside[0], int):
-            return path_region("^%d$" % inside[0], self.world, self.place)
-        raise Unsayable("other paths than those with an AS, `[= * N * =]`, with a first one, `[= N * =]`, with none, "
-                        "`[= =]`, or one alone, `[= N =]`")
+            with contextlib.suppress(Unsayable):
+                return path_region("^%d$" % inside[0], self.world, self.place)
+        return self._occurring(expression_of_mask(wanted), line, "other paths than those with an AS, `[= * N * =]`, "
+                               "with a first one, `[= N * =]`, with none, `[= =]`, or one alone, `[= N =]`")
 
     def _of_first(self, wanted: Any, state: State) -> Region:
         if state.value("prepend"):

@@ -27,10 +27,10 @@ NAME = re.compile("[!-~]+")
 class BirdTranslation(Translation):
     """The script that is made of all routers."""
 
-    def __init__(self, network: Network) -> None:
+    def __init__(self, network: Network, unsaid: str = "skip") -> None:
         self.decided: Dict[Tuple[str, str], Dict[Prefix, Action]] = {}
         checks.stop(network)
-        super().__init__(network)
+        super().__init__(network, unsaid)
 
     def _world(self) -> World:
         world = super()._world()

@@ -2,7 +2,7 @@
 rules."""
 from __future__ import annotations
 
-from typing import Any, List, NamedTuple, Tuple
+from typing import Any, Collection, List, NamedTuple, Optional, Tuple
 
 from ...program.language import address, contains
 from ..common.configuration import NOWHERE, Item, Prefix, masked
@@ -110,11 +110,19 @@ def _is_met(net: Net, pattern: Pattern) -> bool:
     return has_length and masked(net.value, common) == masked(pattern.where.value, common)
 
 
-def prefixes(wanted: Any) -> Region:
-    """What a prefix, or a set of patterns, is about; raises Unsayable."""
+def prefixes(wanted: Any, known: Optional[Collection[Prefix]]) -> Tuple[Region, bool]:
+    """What a prefix, or a set of patterns, is about, and whether that is exact for the prefixes alone that can occur,
+    which are named one by one; raises Unsayable. `known`: these prefixes, where they are known."""
     if isinstance(wanted, Net):
-        return [(under(masked(*wanted)), True)] + NOTHING
-    return [(match, True) for each in wanted.elements for match in _matches(_pattern(each))] + NOTHING
+        return [(under(masked(*wanted)), True)] + NOTHING, False
+    patterns = [_pattern(each) for each in wanted.elements]
+    try:
+        return [(match, True) for each in patterns for match in _matches(each)] + NOTHING, False
+    except Unsayable:
+        if known is None:
+            raise
+    return [(is_(where), True) for where in sorted(known) if any(_is_met(Net(*where), each) for each in patterns)] + \
+        NOTHING, True
 
 
 def _matches(pattern: Pattern) -> List[Match]:
@@ -126,3 +134,22 @@ def _matches(pattern: Pattern) -> List[Match]:
         item = Item(True, NOWHERE, masked(value, length), max(pattern.least, length), pattern.most)
         found += prefix_matches(item)
     return found
+
+
+def expression_of_mask(mask: Mask) -> str:
+    """A mask of paths as an expression of POSIX; raises Unsayable."""
+    parts = [{"*": "((^| )[0-9]+)*", "?": "(^| )[0-9]+"}.get(each, "") if isinstance(each, str) else
+             "(^| )" + _any_of(each) for each in mask.elements]
+    if "" in parts:
+        raise Unsayable("this mask of paths")
+    return "^%s$" % "".join(parts)
+
+
+def expression_of_last(wanted: Any) -> str:
+    """Paths that end with an AS, or with one of a set; raises Unsayable."""
+    return "(^| )%s$" % _any_of(wanted)
+
+
+def _any_of(wanted: Any) -> str:
+    elements = wanted.elements if isinstance(wanted, SetOf) else (wanted,)
+    return "(%s)" % "|".join(str(asn) for each in elements for asn in spread(each, 1))

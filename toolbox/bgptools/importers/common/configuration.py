@@ -118,13 +118,16 @@ class Neighbour:
 
 @dataclass
 class Entry:
-    """An entry of a route map. Each kind of match counts once, the last one of it."""
+    """An entry of a route map. Each kind of match counts once, the last one of it. `call` is a map that it calls, and
+    `goes_on` the least number of the entry that it goes on to behind that."""
     is_permit: bool
     sequence: int
     line: Line
     matches: Dict[str, Tuple[str, Line]] = field(default_factory=dict)
     settings: Dict[str, Tuple[str, Line]] = field(default_factory=dict)
     is_broken: bool = False
+    call: str = ""
+    goes_on: Optional[int] = None
 
 
 @dataclass
@@ -332,6 +335,13 @@ def taken(takers: List[Taker], line: Line, text: str, *given: object) -> bool:
 
 
 def sets_some(config: Config, map_name: str) -> bool:
-    """Whether an entry of a map gives communities to a route."""
-    return any(entry.settings.get("community", ("none",))[0] != "none"
-               for entry in config.maps.get(map_name, {}).values())
+    """Whether an entry of a map, or of one that it calls, gives communities to a route."""
+    seen, waiting = {map_name}, [map_name]
+    while waiting:
+        entries = config.maps.get(waiting.pop(), {}).values()
+        if any(entry.settings.get("community", ("none",))[0] != "none" for entry in entries):
+            return True
+        called = {entry.call for entry in entries if entry.call} - seen
+        seen |= called
+        waiting += sorted(called)
+    return False

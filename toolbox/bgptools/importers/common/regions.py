@@ -3,24 +3,55 @@ from __future__ import annotations
 
 import re
 from dataclasses import dataclass, field
-from typing import Dict, List, Set
+from typing import Collection, Dict, List, Optional, Set, Tuple
 
-from ...program.language import number, show_address
+from ...program.language import contains, number, show_address
 from .configuration import Item
 from .policy import ALL, ANY, NOTHING, Match, Prefix, Region, Unsayable, is_, under
 
 # So many rules at most stand for one entry of a prefix list.
 MOST_OF_ONE = 32
+# What is told of rules that name prefixes one by one.
+EXACT_FOR = "its rules are exact for the %d prefixes that can come there by the files; convert again with others, or " \
+    "write rules for them"
 
 
 @dataclass
 class World:
     """What is known of all ASes: the neighbours of each, those that are fed by hand, those that put themselves into
-    paths more than once, and where maps of each set communities: on the way in or out, or inside it."""
+    paths more than once, and where maps of each set communities: on the way in or out, or inside it. `origins` are the
+    prefixes of each, once these are found; `given` all communities that maps set. `unsaid` is what becomes of what no
+    rule says: it is left out (`skip`), or decides all that comes to it (`deny`, `permit`)."""
     neighbours: Dict[int, Set[int]] = field(default_factory=dict)
     fed: Set[int] = field(default_factory=set)
     prepending: Set[int] = field(default_factory=set)
     marking: Dict[int, Set[str]] = field(default_factory=dict)
+    origins: Optional[Dict[int, Set[Prefix]]] = None
+    given: Set[int] = field(default_factory=set)
+    unsaid: str = "skip"
+
+    def prefixes(self, place: Place) -> Optional[Set[Prefix]]:
+        """The prefixes that can occur there; nothing where these are not known: an AS by which routes may come is fed,
+        or none originates any."""
+        asns = self.sources(place)
+        if asns is None or self.origins is None:
+            return None
+        return {where for asn in asns for where in self.origins.get(asn, ())} or None
+
+    def sources(self, place: Place) -> Optional[Set[int]]:
+        """The ASes by which routes may come there; nothing where one of them is fed."""
+        start, barred = (place.other, place.asn) if place.is_from_outside else (place.asn, place.other)
+        # A route that went through the AS that it comes to is dropped as a loop.
+        left = {barred} - self.fed - {start}
+        found, waiting = {start}, [start]
+        while waiting:
+            here = waiting.pop()
+            if here in self.fed:
+                return None
+            around = self.neighbours.get(here, set()) - found - left
+            found |= around
+            waiting += around
+        return found
 
     def is_bare(self, place: Place) -> bool:
         """Whether all routes there are known to come without communities: none of the ASes by which they may come is
@@ -70,6 +101,22 @@ def prefix_matches(item: Item) -> List[Match]:
     if item.most < 32 and 2 ** (item.most - length + 1) - 2 ** (item.least - length) <= MOST_OF_ONE:
         return [is_(part) for each in range(item.least, item.most + 1) for part in parts(item.where, each)]
     raise Unsayable("prefixes of the lengths %d to %d alone" % (item.least, item.most))
+
+
+def prefix_region(item: Item, known: Optional[Collection[Prefix]]) -> Tuple[Region, bool]:
+    """What an entry of a prefix list is about, and whether that is exact for the prefixes alone that can occur, which
+    are named one by one; raises Unsayable."""
+    try:
+        return [(match, True) for match in prefix_matches(item)] + NOTHING, False
+    except Unsayable:
+        if known is None:
+            raise
+    within = sorted(each for each in known if contains(item.where, each))
+    inside = [each for each in within if item.least <= each[1] <= item.most]
+    outside = [each for each in within if each not in inside]
+    if len(outside) <= len(inside):
+        return [(is_(each), False) for each in outside] + [(under(item.where), True)] + NOTHING, True
+    return [(is_(each), True) for each in inside] + NOTHING, True
 
 
 def parts(where: Prefix, length: int) -> List[Prefix]:

@@ -2,6 +2,7 @@
 same of many lines once; routers by their names."""
 from __future__ import annotations
 
+import argparse
 import re
 import sys
 from collections import Counter
@@ -23,6 +24,13 @@ _ADDRESS = re.compile(r"(?<![\d.])(?<!-id )(?<!identifier )[0-9]+(?:\.[0-9]+){3}
 def listed(names: Sequence[str], shown: int = 1) -> str:
     """Names in a text that is told: so many of them are shown, and all with `--all`."""
     return "%s%d:%s%s" % (_BEGIN, shown, _PART.join(names), _END)
+
+
+def add_unsaid(parser: argparse.ArgumentParser) -> None:
+    """The option that says what becomes of an entry of a policy that no rule says."""
+    parser.add_argument("--unsaid", choices=("deny", "permit", "skip"), default="skip", help="what an entry or condition "
+                        "of a policy that no rule says does with all that comes to it; skip, the default, leaves it "
+                        "out")
 
 
 def report(network: Network, told: List[Told], is_strict: bool, lists_all: bool = False) -> int:

@@ -7,7 +7,7 @@ from ...program.language import address, by_address
 from ...program.mistakes import Mistake
 from ...program.names import mark
 from . import igp_costs, origins, sessions
-from .configuration import Config, Neighbour, sets_some, short
+from .configuration import Config, Neighbour, Prefix, sets_some, short
 from .network import Link, Network
 from .opening import Opening
 from .origins import Own
@@ -23,12 +23,14 @@ UPWARDS = ("customer", "peer", "rs-client")
 class Translation:
     """The script that is made of all routers."""
 
-    def __init__(self, network: Network) -> None:
+    def __init__(self, network: Network, unsaid: str = "skip") -> None:
         self.network = network
         self.lines: List[str] = []
         self.world = self._world()
+        self.world.unsaid = unsaid
         self.policies: Dict[Tuple[str, str, str], Rules[Action]] = {}
         self.owns = {name: self._owns(name) for name in network.routers}
+        self.world.origins = self._origins()
         sessions.check(network, self._opening)
         self._routers()
         self._links_and_sessions()
@@ -82,6 +84,14 @@ class Translation:
         for name, way, map_name in used:
             if sets_some(network.routers[name], map_name):
                 found.setdefault(network.asn_of(name), set()).add(way)
+        return found
+
+    def _origins(self) -> Dict[int, Set[Prefix]]:
+        """The prefixes that routers of each AS originate, a default route that they tell among them."""
+        found: Dict[int, Set[Prefix]] = {}
+        for name, owns in self.owns.items():
+            told = [DEFAULT for _, each in self.network.peers_of(name) if _tells(each)]
+            found.setdefault(self.network.asn_of(name), set()).update([own.where for own in owns] + told)
         return found
 
     def _routers(self) -> None:

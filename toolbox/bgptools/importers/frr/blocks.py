@@ -509,6 +509,21 @@ def _set_word(config: Config, entry: Entry, line: Line, kind: str, said: str) ->
     entry.settings[{"as-path prepend": "prepend"}.get(kind, kind)] = (said, line)
 
 
+def _call(config: Config, entry: Entry, line: Line, name: str) -> None:
+    entry.call = name
+
+
+def _goes_on(config: Config, entry: Entry, line: Line, following: Optional[str], target: Optional[str],
+             further: Optional[str]) -> None:
+    said = target or further
+    at = number(said, entry.sequence + 1, 65535) if said else entry.sequence + 1
+    if at is None or not entry.is_permit or not said and not following:
+        config.tell(line, "%s: FRR goes on from `permit` alone, by `on-match next` or to a higher number, and does not "
+                    "take the line" % line.text, False)
+        return
+    entry.goes_on = at
+
+
 def _broken(config: Config, entry: Entry, line: Line, said: str) -> bool:
     entry.is_broken = True
     return False
@@ -524,6 +539,7 @@ def _keep_entry(config: Config, block: Block, entry: Entry) -> None:
     known.matches.update(entry.matches)
     known.settings.update(entry.settings)
     known.is_broken = known.is_broken or entry.is_broken
+    known.call, known.goes_on = entry.call or known.call, known.goes_on if entry.goes_on is None else entry.goes_on
 
 
 def _takers(*rows: Tuple[str, Callable[..., Optional[bool]]]) -> List[Taker]:
@@ -566,6 +582,7 @@ TAKERS: Dict[str, List[Taker]] = {
         (r"match (community) (\S+(?: exact-match| any)?)", _match), (r"set community (.+)", _set_community),
         (r"set (local-preference|metric) ([0-9]+)", _set_number),
         (r"set (as-path prepend|weight|ip next-hop) (.+)", _set_word), (r"set (comm-list) (\S+) delete", _set_word),
+        (r"call (\S+)", _call), (r"on-match (next)|on-match goto ([0-9]+)|continue(?: ([0-9]+))?", _goes_on),
         (r"((?:match|call|on-match|continue).*)", _broken)),
 }
 

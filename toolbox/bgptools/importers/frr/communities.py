@@ -95,6 +95,11 @@ def matches_of(item: Item) -> List[Match]:
     return [ANY] if wanted is None else [Match("comm", each) for each in wanted]
 
 
+def each_of(item: Item) -> List[Match]:
+    """Matches of which a standard entry asks for all."""
+    return [ANY if each == INTERNET else Match("comm", each) for each in item.numbers]
+
+
 def check_exact(items: List[Item]) -> None:
     """With `exact-match` a standard entry is about routes that carry just its communities; raises Unsayable for
     one."""
