@@ -1,5 +1,6 @@
 """sweep: what it tells of each change is what what-if tells of it alone; families, results, and parts by prefixes."""
 import argparse
+import copy
 import csv
 import io
 import itertools
@@ -13,6 +14,7 @@ import sys
 import time
 
 from bgptools.change.rollback import commands_back
+from bgptools.convergence.run import Run
 from bgptools.program.script import lines_of, read
 from bgptools.sweep import families
 from bgptools.sweep.player import Job, Player, converged_job
@@ -199,6 +201,22 @@ class AsWhatIf(Case):
                 for line in commands_back(run.network, before):
                     self.assertEqual(run.say(line)[0], "ok", line)
                 self.assertEqual(commands_back(run.network, before), [], change)
+
+
+class Copies(Case):
+    def test_a_copy_is_the_same_and_no_command_to_it_reaches_the_first(self):
+        def told(network):
+            return {name: value.of if name == "names" else value for name, value in vars(network).items()}
+        lines = [line for text in CHANGES for line in text.split("\n")]
+        lines.append("feed 7.0.0.1 5.0.0.1 update 33.0.0.0/8 7 igp - comm=77")
+        with Run() as run:
+            run.play(lines_of(BASE.encode(), "base"))
+            before, made = copy.deepcopy(told(run.network)), run.network.copy()
+            self.assertEqual(told(made), before)
+            for line in lines:
+                run.say(line)
+            self.assertEqual([name for name, value in told(run.network).items() if value == before[name]], [])
+            self.assertEqual(told(made), before)
 
 
 class Families(Case):
