@@ -207,8 +207,8 @@ class Copies(Case):
     def test_a_copy_is_the_same_and_no_command_to_it_reaches_the_first(self):
         def told(network):
             return {name: value.of if name == "names" else value for name, value in vars(network).items()}
-        lines = [line for text in CHANGES for line in text.split("\n")]
-        lines.append("feed 7.0.0.1 5.0.0.1 update 33.0.0.0/8 7 igp - comm=77")
+        lines = ["rule 5.0.0.3 6.0.0.1 out any deny"] + [line for text in CHANGES for line in text.split("\n")]
+        lines.append("rule 6.0.0.1 8.0.0.1 in any permit add=77")
         with Run() as run:
             run.play(lines_of(BASE.encode(), "base"))
             before, made = copy.deepcopy(told(run.network)), run.network.copy()
