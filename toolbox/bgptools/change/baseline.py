@@ -1,7 +1,6 @@
 """A quiet network, with what it answers, to compare changes with: only what a change may have moved is asked again."""
 from __future__ import annotations
 
-import copy
 import functools
 import hashlib
 from typing import Dict, FrozenSet, Iterable, List, Optional, Set, Tuple
@@ -29,7 +28,7 @@ class Baseline(Answers):
     routers whose packets pass it."""
 
     def __init__(self, run: Run) -> None:
-        self.network = copy.deepcopy(run.network)
+        self.network = run.network.copy()
         self._lines = list(run.lines)
         self.replies: Dict[str, List[str]] = {}
         self.passing: Dict[str, Dict[str, Set[str]]] = {}

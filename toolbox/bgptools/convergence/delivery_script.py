@@ -2,7 +2,7 @@
 from __future__ import annotations
 
 import sys
-from typing import List, Optional, Tuple
+from typing import Iterable, List, Optional, Tuple
 
 from ..program.line_count import check_length
 from ..program.replies import refusal
@@ -16,8 +16,8 @@ EMPTY = 17
 class DeliveryScript:
     """The script that is made, and what was left out of the one that was given."""
 
-    def __init__(self) -> None:
-        self.lines: List[str] = []
+    def __init__(self, lines: Iterable[str] = ()) -> None:
+        self.lines: List[str] = list(lines)
         self.left_out = 0
 
     def take(self, line: Line) -> None:
@@ -35,9 +35,11 @@ def _is_left_out(line: Line, reply: List[str]) -> bool:
     return is_delivery(line.text) and refusal(reply) == EMPTY and line.expected is None
 
 
-def converged(run: Run, lines: List[Line], is_at_end: bool) -> Tuple[DeliveryScript, Optional[Convergence]]:
-    """The lines with deliveries behind each command or at the end; and the deliveries that did not end, if there are such."""
-    written = DeliveryScript()
+def converged(run: Run, lines: List[Line], is_at_end: bool,
+              before: Iterable[str] = ()) -> Tuple[DeliveryScript, Optional[Convergence]]:
+    """The lines with deliveries behind each command or at the end; and the deliveries that did not end, if there are such.
+    `before` is what was written of the lines before these, which the run was given."""
+    written = DeliveryScript(before)
     check_length(len(lines), lines[0].file if lines else None)
     for left, line in zip(range(len(lines), 0, -1), lines):
         reply = run.say(line.text)

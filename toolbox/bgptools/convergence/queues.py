@@ -23,6 +23,13 @@ class Queues:
         self.chosen: Dict[str, Dict[str, Optional[str]]] = {}
         self.knows_all = True
 
+    def copy(self, network: Network) -> "Queues":
+        """The same for a copy of the network."""
+        made = Queues(network)
+        made.most, made.knows_all = dict(self.most), self.knows_all
+        made.chosen = {router: dict(chosen) for router, chosen in self.chosen.items()}
+        return made
+
     # What is known of a router's choice: the reply to `best`, or nothing where it may have changed since.
 
     def known(self, cell: Cell) -> Optional[str]:

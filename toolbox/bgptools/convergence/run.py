@@ -1,7 +1,6 @@
 """A run of the program with what is configured in it: plays scripts, and keeps what was accepted."""
 from __future__ import annotations
 
-import copy
 import hashlib
 from dataclasses import dataclass
 from typing import Iterable, List, Optional
@@ -148,7 +147,8 @@ class Run(Answers):
 
     def snapshot(self) -> Snapshot:
         """The network as it stands, to be restored later."""
-        network, waiting = copy.deepcopy((self.network, self.deliverer.waiting))
+        network = self.network.copy()
+        waiting = self.deliverer.waiting.copy(network)
         return Snapshot(self.program.snapshot(), network, waiting, self.deliverer.is_unsure, self.has_tried_all)
 
     def restore(self, kept: Snapshot) -> None:

@@ -1,7 +1,7 @@
 """What is configured, kept from the lines that the program accepted. It holds no route: those the program alone decides."""
 from __future__ import annotations
 
-from dataclasses import dataclass
+from dataclasses import dataclass, replace
 from typing import Callable, Dict, FrozenSet, List, Optional, Set, Tuple
 
 from ..program.language import address, by_address, readable
@@ -23,14 +23,14 @@ def ends(both: Pair) -> List[str]:
     return sorted(both, key=by_address)
 
 
-@dataclass
+@dataclass(frozen=True)
 class Node:
     """A router or virtual peer."""
     asn: int
     is_virtual: bool
 
 
-@dataclass
+@dataclass(frozen=True)
 class Link:
     """A link."""
     metric: int
@@ -56,6 +56,19 @@ class Network:
         # Those that were fed, that rules add and that they match.
         self.communities: Set[int] = set()
         self.names = Names()
+
+    def copy(self) -> "Network":
+        """Another one with the same configuration."""
+        made = Network()
+        made.nodes, made.links, made.enabled = dict(self.nodes), dict(self.links), dict(self.enabled)
+        made.peers = {router: set(peers) for router, peers in self.peers.items()}
+        made.clients, made.selves, made.med_always = set(self.clients), set(self.selves), set(self.med_always)
+        made.clusters = dict(self.clusters)
+        made.rules = {place: list(rules) for place, rules in self.rules.items()}
+        made.origins = {router: set(own) for router, own in self.origins.items()}
+        made.prefixes, made.communities = set(self.prefixes), set(self.communities)
+        made.names.of = dict(self.names.of)
+        return made
 
     def routers(self) -> List[str]:
         """The routers in order of address."""
@@ -124,9 +137,9 @@ def _link(network: Network, words: List[str]) -> None:
     if words[0] == "link":
         network.links[key] = Link(int(words[3]))
     elif words[0] == "metric":
-        network.links[key].metric = int(words[3])
+        network.links[key] = replace(network.links[key], metric=int(words[3]))
     else:
-        network.links[key].is_up = words[0] == "mend"
+        network.links[key] = replace(network.links[key], is_up=words[0] == "mend")
 
 
 def _session(network: Network, words: List[str]) -> None:

@@ -71,6 +71,7 @@ class CountedProgram(Program):
         """Takes back the network of a snapshot, and what had been accepted then."""
         # A program that is started anew for this line needs no more than what had been accepted then.
         del self.accepted[self.snapshots[number - 1]:], self.snapshots[number:]
+        self.is_near = len(self.accepted) >= NEAR * MOST_LINES
         super().restore(number)
         del self.snapshots[number - 1:]
 

@@ -2,7 +2,8 @@
 
 The program is a machine that keeps what is configured, what was received and what waits, and nothing else. So where all
 three are again as they were, it answers as it did in front of the change. What cannot be taken back, or is found to be
-otherwise afterwards, is played anew: the program is started again, and given the script with its deliveries."""
+otherwise afterwards, is played anew at first: the program is started again, and given the script with its deliveries.
+From then on a snapshot is kept, and restored. Taking back is less work where a change moves little, as most do."""
 from __future__ import annotations
 
 import argparse
@@ -17,8 +18,8 @@ from ..change.rollback import commands_back
 from ..change.transients import Watch
 from ..change.what_if import converged_base
 from ..convergence.delivery import Deliverer, Convergence
-from ..convergence.orders import RandomOrder, order_of
-from ..convergence.run import Run
+from ..convergence.orders import Order, RandomOrder, order_of
+from ..convergence.run import Run, Snapshot
 from ..network.configuration import Direction
 from ..network.prefix_parts import PLACES
 from ..program.line_count import is_accepted
@@ -125,6 +126,40 @@ class Attempt:
         return all(self.quiet.held.get(way) == digest(reply) for way, reply in zip(asked, replies))
 
 
+def snapshot_of(run: Run) -> Optional[Snapshot]:
+    """A snapshot; nothing where there is no memory for one, or the program has ended."""
+    try:
+        return run.snapshot()
+    except Mistake:
+        return None
+
+
+class Begin:
+    """The base as its script leaves it, before it converges: for one order after another."""
+
+    def __init__(self, job: Job) -> None:
+        self.job = job
+        self.run: Optional[Run] = None
+        self.kept: Optional[Snapshot] = None
+
+    def again(self, order: Order) -> Run:
+        """The run, to which only the script was given, for this order."""
+        if self.run and self.kept:
+            self.run.restore(self.kept)
+        else:
+            self.close()
+            self.run = Run()
+            self.run.play(self.job.script)
+        self.kept = snapshot_of(self.run)
+        self.run.follow(order, self.job.chosen.most, False)
+        return self.run
+
+    def close(self) -> None:
+        if self.run:
+            self.run.close()
+        self.run = self.kept = None
+
+
 class Player:
     """Tries the changes of a job. A quiet network that is known already is shared."""
 
@@ -132,6 +167,9 @@ class Player:
         self.job = job
         self.run = self._fresh()
         self.quiet = quiet or Baseline(self.run)
+        self.begin = Begin(job)
+        # The quiet network, once a change was not taken back.
+        self.kept: Optional[Snapshot] = None
         # How often the program was started anew.
         self.renewed = 0
 
@@ -166,7 +204,7 @@ class Player:
         except Mistake as mistake:
             found = Figures(mistake=str(mistake))
         if not is_back:
-            self._renew()
+            self._restore()
         return found
 
     def _prepare(self, trial: Trial) -> None:
@@ -186,25 +224,34 @@ class Player:
             with self._fresh() as run:
                 self.quiet.follow(run, addresses)
 
+    def _restore(self) -> None:
+        """The quiet network again, in the place of one with a change that was not taken back."""
+        if self.kept is None:
+            self._renew()
+        else:
+            self.run.restore(self.kept)
+            self.kept = snapshot_of(self.run)
+
     def _renew(self) -> None:
         self.renewed += 1
-        self.run.close()
+        self.close()
         self.run = self._fresh()
+        self.kept = snapshot_of(self.run)
 
     def _ordered(self, trial: Trial) -> Figures:
         """The base, converged in a random order, beside the quiet one."""
-        with Run(RandomOrder(trial.seed), self.job.chosen.most) as run:
-            run.play(self.job.script)
-            watch, done = Watch(run), run.converge()
-            difference = compare(self.quiet, run, [], has_reasons=self.job.has_texts)
-            found = figures_of(difference, len(done.taken), done.is_converged)
-            found.state = run.state() if done.is_converged else ""
-            if self.job.has_texts:
-                found.text = text_of(Outcome(difference, watch, self.job.converged or done, [done]), False)
+        run = self.begin.again(RandomOrder(trial.seed))
+        watch, done = Watch(run), run.converge()
+        difference = compare(self.quiet, run, [], has_reasons=self.job.has_texts)
+        found = figures_of(difference, len(done.taken), done.is_converged)
+        found.state = run.state() if done.is_converged else ""
+        if self.job.has_texts:
+            found.text = text_of(Outcome(difference, watch, self.job.converged or done, [done]), False)
         return found
 
     def close(self) -> None:
         self.run.close()
+        self.begin.close()
 
 
 def _named(trial: Trial) -> Set[str]:

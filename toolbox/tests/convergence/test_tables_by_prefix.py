@@ -30,6 +30,27 @@ class ByPrefix(Case):
                 ends = [block.count("\n") - 1 for block in re.split("(?<=\n)(?=routes)", wanted)]
                 self.assertEqual([int(text) for text in re.findall("end (.*)\n", told.stdout)], ends)
 
+    def test_a_part_does_not_see_those_before_it(self):
+        """Each tells what it tells alone: after one that converges in another order than the first, or in none, too."""
+        text = DISAGREE.read_text()
+        origin = next(line for line in text.split("\n") if line.startswith("origin "))
+        router = origin.split(" ")[1]
+        prefixes = ["203.0.113.0/24", "203.0.114.0/24", "203.0.115.0/24"]
+        self.assertEqual(origin, "origin %s %s" % (router, prefixes[0]))
+        for words in (("--at-end",), ("--at-end", "--most", 3)):
+            alone = []
+            for to in prefixes:
+                base = self.file("network", text.replace(prefixes[0], to))
+                alone.append(inside("converge", "--by-prefix", 1, "--jobs", 1, base, *words))
+            base = self.file("network", text + "".join("origin %s %s\n" % (router, to) for to in prefixes[1:]))
+            told = inside("converge", "--by-prefix", 1, "--jobs", 1, base, *words)
+            self.assertEqual(told.returncode, alone[0].returncode, words)
+            self.assertEqual([line for line in sorted(told.stdout.split("\n")) if line[:4] != "end "],
+                             sorted({line for one in alone for line in one.stdout.split("\n") if line[:4] != "end "}))
+            without = [re.sub(r"network:\d+", "network", line) for line in told.stderr.split("\n")]
+            self.assertEqual(set(without), {re.sub(r"network:\d+", "network", line) for one in alone
+                                            for line in one.stderr.split("\n")})
+
     def test_sweeps(self):
         for base, words in ((self.network(), ("--fail-links", "--hijack", "100.0.3.0/24")),
                             (self.file("base", BASE), ("--fail-routers", "--fail-sessions"))):

@@ -1,5 +1,6 @@
 """sweep: what it tells of each change is what what-if tells of it alone; families, results, and parts by prefixes."""
 import argparse
+import copy
 import csv
 import io
 import itertools
@@ -13,6 +14,7 @@ import sys
 import time
 
 from bgptools.change.rollback import commands_back
+from bgptools.convergence.run import Run
 from bgptools.program.script import lines_of, read
 from bgptools.sweep import families
 from bgptools.sweep.player import Job, Player, converged_job
@@ -52,7 +54,7 @@ feed 7.0.0.1 5.0.0.1 update 30.0.0.0/8 7,9 igp 5
 feed 7.0.0.1 5.0.0.1 update 30.1.0.0/16 7 igp - comm=5
 feed 8.0.0.1 6.0.0.1 update 30.0.0.0/8 8,9 igp -
 """
-# Each with how often the program has to be started anew after it.
+# Each with 1 where commands do not take it back: after the first one the program is started anew, and then restored.
 CHANGES = {
     "fail 5.0.0.1 7.0.0.1": 0, "fail 5.0.0.3 6.0.0.1": 0, "stop 5.0.0.1 7.0.0.1": 0, "stop 5.0.0.1 5.0.0.2": 0,
     "fail 5.0.0.1 5.0.0.2\nfail 5.0.0.1 5.0.0.3": 0, "metric 5.0.0.1 5.0.0.3 1": 0, "med 5.0.0.3 always": 0,
@@ -67,7 +69,7 @@ CHANGES = {
     "# expect refused\norigin 9.9.9.9 61.0.0.0/8\norigin 6.0.0.1 62.0.0.0/8": 0,
     "# nothing": 0, "# name 6.0.0.1 right\nmetric 5.0.0.1 5.0.0.2 50": 0, "routes 5.0.0.1\nstop 5.0.0.3 6.0.0.1": 0,
     "router 6.0.0.2 6\nlink 6.0.0.1 6.0.0.2 1\njoin 6.0.0.1 6.0.0.2": 1,
-    "link 5.0.0.1 8.0.0.1 5\njoin 5.0.0.1 8.0.0.1": 1}
+    "link 5.0.0.1 8.0.0.1 5\njoin 5.0.0.1 8.0.0.1": 1, "stop 5.0.0.1 5.0.0.2\nfail 5.0.0.2 5.0.0.3": 0}
 
 
 def words_of(**others):
@@ -126,10 +128,11 @@ class AsWhatIf(Case):
         changes = [families.Trial(families.FILE, text, tuple(lines_of(text.encode(), str(self.folder / "change"))))
                    for text in CHANGES]
         player = self.player(base, lambda network: changes)
+        first = next(text for text, count in CHANGES.items() if count)
         for at, text in enumerate(CHANGES):
             before = player.renewed
             self.assert_as_what_if(player, base, at)
-            self.assertEqual(player.renewed - before, CHANGES[text], text)
+            self.assertEqual(player.renewed - before, int(text == first), text)
 
     def test_what_does_not_converge_is_played_anew(self):
         base, ends = THREE, (("1.0.0.1 2.0.0.1", 2), ("2.0.0.1 3.0.0.1", 3), ("3.0.0.1 1.0.0.1", 1))
@@ -139,6 +142,45 @@ class AsWhatIf(Case):
         player = self.player(base, lambda network: made + families.links(network))
         for at in (0, 1, 0, 2):
             self.assert_as_what_if(player, base, at)
+
+    def test_no_order_converges(self):
+        """Each of three ASes likes the way through the next one best, if that goes straight on to the fourth."""
+        ases, ring = (1, 2, 3, 4), ((1, 2, 3), (2, 3, 1), (3, 1, 2))
+        text = "".join("router %d.0.0.1 %d\n" % (asn, asn) for asn in ases) + "origin 4.0.0.1 40.0.0.0/8\n"
+        text += "".join("link %d.0.0.1 %d.0.0.1 1\njoin %d.0.0.1 %d.0.0.1\n" % (*both, *both)
+                        for both in itertools.combinations(ases, 2))
+        wheel = "".join("rule {0}.0.0.1 {1}.0.0.1 in path {2} deny\nrule {0}.0.0.1 {1}.0.0.1 in any permit pref=200\n"
+                        .format(*each) for each in ring)
+        made = [families.Trial(families.FILE, "wheel", tuple(lines_of(wheel.encode(), "change")))]
+        base = self.file("base", text)
+        player = self.player(base, lambda network: made + families.links(network))
+        found = [self.assert_as_what_if(player, base, at).is_converged for at in (0, 1, 0, 2)]
+        self.assertEqual((found, player.renewed), ([False, True, False, True], 1))
+
+    def test_the_program_ends_in_the_middle(self):
+        """The next change is tried on the network without the one before it, which was under way."""
+        base = self.file("base", BASE)
+        player = self.player(base, families.links)
+        wanted = [player.play(at).as_json() for at in range(len(player.job.trials))]
+        for has_snapshot in (False, True):
+            self.assertEqual(player.kept is not None, has_snapshot)
+            for at, each in enumerate(wanted):
+                if at % 2:
+                    player.run.program.process.kill()
+                self.assertEqual(player.play(at).as_json(), each)
+        self.assertEqual(player.renewed, 2 * (len(wanted) // 2))
+
+    def test_random_orders_from_one_begin(self):
+        """Each as in a player of its own: after one that does not converge, and where the program ended, too."""
+        trials = families.orders(8)
+        player = self.player(DISAGREE, lambda network: trials)
+        alone = [self.player(DISAGREE, lambda network: trials).play(at).as_json() for at in range(len(trials))]
+        self.assertGreater(len({json.dumps(each) for each in alone}), 1)
+        for at in [*range(len(trials)), 0]:
+            self.assertEqual(player.play(at).as_json(), alone[at])
+        player.begin.run.program.process.kill()
+        self.assertEqual([player.play(at).as_json() for at in range(len(trials))], alone)
+        self.assertEqual(player.renewed, 1)
 
     def test_it_is_seen_where_a_change_is_not_taken_back(self):
         """Of two stable states the network is in the other one, when a link has failed and come up."""
@@ -159,6 +201,22 @@ class AsWhatIf(Case):
                 for line in commands_back(run.network, before):
                     self.assertEqual(run.say(line)[0], "ok", line)
                 self.assertEqual(commands_back(run.network, before), [], change)
+
+
+class Copies(Case):
+    def test_a_copy_is_the_same_and_no_command_to_it_reaches_the_first(self):
+        def told(network):
+            return {name: value.of if name == "names" else value for name, value in vars(network).items()}
+        lines = ["rule 5.0.0.3 6.0.0.1 out any deny"] + [line for text in CHANGES for line in text.split("\n")]
+        lines.append("rule 6.0.0.1 8.0.0.1 in any permit add=77")
+        with Run() as run:
+            run.play(lines_of(BASE.encode(), "base"))
+            before, made = copy.deepcopy(told(run.network)), run.network.copy()
+            self.assertEqual(told(made), before)
+            for line in lines:
+                run.say(line)
+            self.assertEqual([name for name, value in told(run.network).items() if value == before[name]], [])
+            self.assertEqual(told(made), before)
 
 
 class Families(Case):
