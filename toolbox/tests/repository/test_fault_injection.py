@@ -1,5 +1,6 @@
 """Fault injection, stress tests and fuzzing: what each tool says of a program that forgets, loses, crashes or answers
 otherwise."""
+import collections
 import os
 import random
 import re
@@ -11,8 +12,8 @@ import unittest.mock
 from common import TOP, Case
 
 import model
-from simtools import (compile_fail, fail_allocations, failing_streams, fuzz_logs, fuzz_scripts, growth, line_faults,
-                      logs, programs, run_cases, small_stacks, stress, team_logs, try_mutants)
+from simtools import (compile_fail, converge_scripts, fail_allocations, failing_streams, fuzz_logs, fuzz_scripts,
+                      growth, line_faults, logs, programs, run_cases, small_stacks, stress, team_logs, try_mutants)
 from simtools.running import Ran
 from test_tools import called, command
 
@@ -226,6 +227,14 @@ class FuzzScripts(Case):
         self.assertIn(b"\0", kinds["random"](1))
         # each line is answered, but comments and blank lines
         self.assertGreater(fuzz_scripts.by_model(kinds["cut"](1)).out.count(b"refused 1 syntax"), 500)
+        self.assertIn(b"\nsnapsho\nsnapshot\n", kinds["cut"](1, converge_scripts))
+
+    def test_lines_without_end(self):
+        """Two ASes change their minds for ever in the fair order, and not in that of this seed."""
+        network = (TOP / "cases" / "converge" / "disagree.bgp").read_bytes().split(b"waiting\n")[0]
+        left = b"converge  random 0\nconverge 60\nconverge router 1000 echo\r\nconverge 1000 loud\nconverge 01\nquiet\r"
+        out = b"converge\nconverge fair 61\r\n  converge  fair  4294967295 echo \n"
+        self.assertEqual(converge_scripts.bounded(network + out + left), network + left)
 
     def test_a_program_that_answers_otherwise(self):
         program = self.file("other", "#!/bin/sh\n%s %s | sed 's/^refused 1 .*/ok/'\n" % programs.MODEL)
@@ -237,8 +246,9 @@ class FuzzScripts(Case):
         self.assertEqual(told, "here, line 2: quiet\0\n    model: 'refused 1 syntax\\n'\n    script: 'ok\\n'")
 
     def test_the_program(self):
-        for name, kind in fuzz_scripts.KINDS:
-            self.assertEqual(fuzz_scripts.compare(fuzz_scripts.Script(name, kind(77)))[1], None)
+        scripts = list(fuzz_scripts.scripts_of(77))
+        self.assertEqual(collections.Counter(script.subcommand for script in scripts), {"script": 3, "converge": 3})
+        self.assertEqual([fuzz_scripts.compare(script)[1] for script in scripts], 6 * [None])
 
 
 @unittest.skipUnless(shutil.which("cc"), NO_CC)
