@@ -10,7 +10,8 @@ of each call of a `Room`.
 Of each line, on the program and on the three machines, the first allocation fails, then the second, until a run meets
 none. The reply to the line is the one of its case, or `refused 20 memory`, and this only where an allocation failed.
 After a refusal every question has the same reply as before the line, and the line, given again, has the reply of its
-case. A line that its case refuses for another reason stays refused for that one, but for the feed of a route.
+case. A line that its case refuses for another reason stays refused for that one, but for the feed of a route. A case of
+`bgpsim converge` is tried on that alone; of a line `converge` the deliveries before the failure stand.
 
 `bgpsim replay` of the script's log, with a failure in each of its lines, ends with `memory` or as it does without. So
 does a team of one engineer and two workers, whose log has no call that was refused. A `Room` (`machine_scripts room`)
@@ -60,16 +61,20 @@ ON_PROGRAM, ON_MACHINES = "bgpsim", "machine_scripts"
 # Of a program that ended too early.
 NO_COPY = Copy(b"", b"", 0, False, 0)
 Words = Tuple[str, ...]
+# The subcommands that play scripts; of the second the lines that take no memory.
+SCRIPT, CONVERGE = "script", "converge"
+FREE = ("quiet", "waiting", "restore")
 # What is wrong, in lines, and how the runs ended in which an allocation was refused.
 Came = Tuple[List[str], Counter[str]]
 Try = Callable[[], Came]
 
 
 class Case(NamedTuple):
-    """A script, and what it has to be answered."""
+    """A script, what it has to be answered, and the subcommand that plays it."""
     name: str
     lines: List[bytes]
     replies: bytes
+    subcommand: str = SCRIPT
 
     def is_long(self) -> bool:
         return len(self.lines) > LONG
@@ -208,7 +213,37 @@ class ScriptFaults:
         route, which takes memory before anything but its syntax is tested."""
         if one.ever.startswith(b"refused "):
             return one.line.split()[0::3][:2] == [b"feed", b"update"] and not one.ever.startswith(b"refused 1 ")
-        return word(one.line) != "quiet"
+        return word(one.line) not in FREE
+
+
+class ConvergeFaults(ScriptFaults):
+    """A script for `bgpsim converge`. Deliveries before one that memory is refused to stand."""
+    more = b"waiting\n"
+
+    def delivered(self, line: bytes) -> int:
+        """How many messages the line delivers at most, of all places where it stands; 0 where it delivers none."""
+        lines = self.case.lines
+        replies = [run(self.words, b"".join(lines[:i + 1])).out.splitlines()[-1]
+                   for i, other in enumerate(lines) if other == line and word(line) == CONVERGE]
+        return max([0, *(int(reply.split(b" (")[0].split()[-1]) for reply in replies if b" after " in reply)])
+
+    def once(self, line: bytes) -> List[bytes]:
+        first = super().once(line)[0]
+        return [(fewer(line, n) if n else b"") + first for n in range(max(self.delivered(line), 1))]
+
+    def left(self, line: bytes, ever: bytes, once: List[bytes]) -> List[bytes]:
+        """So many messages were delivered, and perhaps written."""
+        lines = [2 * n if line.split()[-1:] == [b"echo"] else 0 for n in range(len(once))]
+        cut = [out.split(b"\n", count + (n > 0)) for n, (count, out) in enumerate(zip(lines, once))]
+        return [b"".join(one + b"\n" for one in told[:count]) + WANT + told[-1] for count, told in zip(lines, cut)]
+
+
+def fewer(line: bytes, n: int) -> bytes:
+    """The line that asks for deliveries, but for so many."""
+    words = line.split()
+    echo = [b"echo"] if words[-1] == b"echo" else []
+    order = words[1:3] if words[1:2] == [b"random"] else [one for one in words[1:2] if one in (b"fair", b"router")]
+    return b" ".join([words[0], *order, b"%d" % n, *echo]) + b"\n"
 
 
 class RoomFaults(ScriptFaults):
@@ -333,25 +368,30 @@ def beginning_faults(inject: Injector, words: Words) -> Came:
 def cases_at(paths: Iterable[pathlib.Path]) -> Iterator[Case]:
     """The scripts among the cases at the paths."""
     for path in sorted({case for path in paths for case in run_cases.cases_in(path)[0]}):
-        wanted = run_cases.wanted(path)
-        if run_cases.words_of(path) == [b"script"] and wanted.status == 0:
-            yield Case(run_cases.name(path), run_cases.given(path).splitlines(keepends=True), wanted.out)
+        wanted, words = run_cases.wanted(path), [word.decode("latin-1") for word in run_cases.words_of(path)]
+        if words in ([SCRIPT], [CONVERGE]) and wanted.status == 0:
+            lines = run_cases.given(path).splitlines(keepends=True)
+            yield Case(run_cases.name(path), lines, wanted.out, words[0])
 
 
 def tries(cases: Sequence[Case], calls: Sequence[Case], asked: Asked, library: str,
           inject: Injector) -> Iterator[Tuple[str, Try]]:
     """What is tried, by names."""
-    on: List[Words] = [(programs.bgpsim(), "script")] if ON_PROGRAM in asked.programs else []
+    on: List[Words] = [(programs.bgpsim(), SCRIPT)] if ON_PROGRAM in asked.programs else []
+    converge: List[Words] = [(programs.bgpsim(), CONVERGE)] if ON_PROGRAM in asked.programs else []
     room: List[Words] = []
     if ON_MACHINES in asked.programs:
         on += [(programs.machine_scripts(), machine) for machine in programs.MACHINES]
         room = [(programs.machine_scripts(), programs.ROOM)]
-    for words in on + room:
+    for words in on + converge + room:
         yield "%s, before a line" % words[1], partial(beginning_faults, inject, words)
-    for case, words in ((case, words) for case in cases for words in on):
+    scripts = [case for case in cases if case.subcommand == SCRIPT]
+    for case, words in ((case, words) for case in scripts for words in on):
         enough = None if asked.are_all or not case.is_long() else ENOUGH
         yield "%s, %s" % (case.name, words[1]), ScriptFaults(library, words, case, enough).faults
-    short = [case for case in cases if not case.is_long()]
+    for case, words in ((case, words) for case in cases if case.subcommand == CONVERGE for words in converge):
+        yield "%s, %s" % (case.name, words[1]), ConvergeFaults(library, words, case, None).faults
+    short = [case for case in scripts if not case.is_long()]
     for case, words in ((case, words) for case in [*calls, *short] for words in room):
         yield "%s, %s" % (case.name, words[1]), RoomFaults(library, words, case, None).faults
     for number, case in enumerate(short if ON_PROGRAM in asked.programs else ()):

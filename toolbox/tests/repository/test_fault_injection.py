@@ -126,6 +126,27 @@ class FailAllocations(Case):
         want = fail_allocations.WANT
         self.assertEqual(left, [want + b"0\nok\n2\n", want + b"1\nok\n2\n", b"ok\n1\nok\n2\n"])
 
+    def test_deliveries_that_stand(self):
+        """A line asks for fewer messages; those that were delivered before memory ran out stand, and are written."""
+        for line, fewer in ((b"converge\n", b"converge 3\n"), (b"converge fair 9 echo\n", b"converge fair 3 echo\n"),
+                            (b"converge  router\n", b"converge router 3\n"), (b"converge 7\n", b"converge 3\n"),
+                            (b"converge random 5 9\n", b"converge random 5 3\n"),
+                            (b"converge echo\n", b"converge 3 echo\n")):
+            self.assertEqual(fail_allocations.fewer(line, 3), fewer)
+        tried = fail_allocations.ConvergeFaults("", (), fail_allocations.Case("here", [], b""), None)
+        want, counted = fail_allocations.WANT, b"not converged after 1 (1 updates, 0 withdrawals)\n"
+        self.assertEqual(tried.left(b"converge\n", b"", [b"no\n", counted + b"yes\n"]),
+                         [want + b"no\n", want + b"yes\n"])
+        told = b"deliver a b\ntook p update\n"
+        self.assertEqual(tried.left(b"converge echo\n", b"", [b"no\n", told + counted + b"yes\n"]),
+                         [want + b"no\n", told + want + b"yes\n"])
+        for line in (b"waiting", b"restore 1", b"restore 9"):
+            self.assertFalse(tried.may_want(fail_allocations.Expected(line, 1, [], b"ok\n")), line)
+
+    def test_snapshots_of_the_program(self):
+        status, told = called(fail_allocations.main, "--on", "bgpsim", TOP / "cases" / "memory" / "snapshots.bgp")
+        self.assertEqual((status, told.split("\n")[-2]), (0, "3 passed, 0 failed"), told)
+
     def test_questions_ask_for_all_there_is(self):
         asked = fail_allocations.questions([b"router 1.0.0.1 1\n", b"virtual 2.0.0.1 2\n", b"join 1.0.0.1 2.0.0.1\n",
                                           b"origin 1.0.0.1 10.0.0.0/8\n"]).decode().split("\n")

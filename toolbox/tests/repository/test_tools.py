@@ -447,7 +447,8 @@ class Comparing(Other):
         ran = command("tools/agree", "--converge", "--scripts", 1, PROGRAM=program)
         self.assertEqual((ran.returncode, ran.stderr), (1, ""))
         self.assertRegex(ran.stdout, (r"\Aseed 1, converge, line [0-9]+: .*converge.*\n"
-                                      r"    model: '.*converged after .*'\n    converge: '.*convergent after .*'\n1 scripts, [0-9]+ lines, 1 differ\n\Z"))
+                                      r"    model: '.*converged after .*'\n    converge: '.*convergent after .*'\n"
+                                      r"1 scripts, [0-9]+ lines, 1 differ\n\Z"))
 
     def test_a_log_that_is_found_to_be_something_else(self):
         ran = command("tools/logs", "agree", "--scripts", 1, PROGRAM=self.other("cat > /dev/null\necho ok 0"))
@@ -521,6 +522,16 @@ class FailScriptAllocations(Case):
         # of one line alone it is only seen where it is asked again
         self.assertEqual(self.refused(False, fail_script_allocations.main, self.file("one.bgp", "quiet\n")), (
             1, "allocation 2 refused: status 0, b'refused 20 memory\\n', b''\n"))
+
+    def test_deliveries_before_the_failure_stand(self):
+        """Each delivery takes memory; the script is one for converge, as the file beside it says."""
+        network = (TOP / "cases" / "converge" / "first.bgp").read_text().split("waiting\n")[0]
+        script = self.file("waits.bgp", network + "snapshot\nconverge random 7\nwaiting\nrestore 1\nwaiting\nquiet\n")
+        self.assertNotEqual(called(fail_script_allocations.main, script, 6)[0], 0)
+        self.file("waits.args", "converge\n")
+        status, told = called(fail_script_allocations.main, script, 6)
+        self.assertRegex(told, r"\A[0-9]+ allocations refused in turn: (as ever: [0-9]+, )?refused 20, .*: [0-9]+\n\Z")
+        self.assertEqual(status, 0)
 
     def test_a_folder(self):
         self.file("scripts/three.bgp", "quiet\n" * 3)
