@@ -111,21 +111,22 @@ def tried(words: Words, inject: Injector, text: bytes, last: int = 0, step: int 
     return AGAIN in counts
 
 
-def words_for(file: pathlib.Path) -> Words:
-    """The words of the program that plays the script."""
-    is_for_converge = run_cases.words_of(file.with_suffix("")) == [CONVERGE.encode()]
-    return programs.bgpsim(), CONVERGE if is_for_converge else SCRIPT
+def subcommand(file: pathlib.Path) -> str:
+    """The subcommand that plays the script."""
+    return CONVERGE if run_cases.words_of(file.with_suffix("")) == [CONVERGE.encode()] else SCRIPT
 
 
 def try_folder(folder: pathlib.Path) -> int:
     """The same of each script of the folder, on the program and on each machine. Missing where one is not there."""
-    on: List[Words] = [(programs.machine_scripts(), machine) for machine in programs.MACHINES]
+    by_program = programs.bgpsim()
+    machines: List[Words] = [(programs.machine_scripts(), machine) for machine in programs.MACHINES]
     came: List[bool] = []
     with injector() as inject:
-        for file, words in ((file, words) for file in sorted(folder.glob("*.bgp"))
-                            for words in [words_for(file), *(on if words_for(file)[1] == SCRIPT else ())]):
-            print("%s, %s %s: " % (file.name, os.path.basename(words[0]), words[1]), end="", flush=True)
-            came.append(tried(words, inject, file.read_bytes()))
+        for file in sorted(folder.glob("*.bgp")):
+            kind = subcommand(file)
+            for words in [(by_program, kind), *(machines if kind == SCRIPT else ())]:
+                print("%s, %s %s: " % (file.name, os.path.basename(words[0]), words[1]), end="", flush=True)
+                came.append(tried(words, inject, file.read_bytes()))
     return commands.counted(came.count(True), came.count(False))
 
 
@@ -143,5 +144,5 @@ def main(words: Sequence[str]) -> int:
     if not given.path.is_file():
         raise commands.Missing("there is no script %s" % given.path)
     with injector() as inject:
-        is_well = tried(words_for(given.path), inject, given.path.read_bytes(), given.lines, given.step)
+        is_well = tried((programs.bgpsim(), subcommand(given.path)), inject, given.path.read_bytes(), given.lines, given.step)
     return 0 if is_well else 1
