@@ -24,8 +24,8 @@ from typing import Counter, Dict, List, Optional, Sequence, Tuple
 
 from . import commands, programs, run_cases
 from .allocation_faults import Injector, allocations, injector
-from .fail_allocations import CONVERGE, SCRIPT, WANT, fewer, word
 from .running import Ran, run, side_by_side
+from .script_faults import CONVERGE, SCRIPT, WANT, fewer, word
 
 AGAIN = "refused 20, and done when asked again"
 Words = Tuple[str, str]
@@ -144,5 +144,6 @@ def main(words: Sequence[str]) -> int:
     if not given.path.is_file():
         raise commands.Missing("there is no script %s" % given.path)
     with injector() as inject:
-        is_well = tried((programs.bgpsim(), subcommand(given.path)), inject, given.path.read_bytes(), given.lines, given.step)
+        by = programs.bgpsim(), subcommand(given.path)
+        is_well = tried(by, inject, given.path.read_bytes(), given.lines, given.step)
     return 0 if is_well else 1
