@@ -2,14 +2,16 @@
 
     tools/fail-script-allocations SCRIPT [LINES [STEP]]    after ./bgpsim has built the program; it needs cc
     tools/fail-script-allocations FOLDER                   each script of the folder, on the program and on the three
-                                                           machines
+                                                           machines; those for converge on the program alone
 
 LINES tries only the allocations that the last so many lines make, for a long script; STEP tries every so many of them.
 PROGRAM= is another program than crates/bgpsim/out/bgpsim.
 
 A run ends with status 5 and `memory` before it answers a line. Or it answers one line `refused 20 memory`, and every
-other line as if that line were not there. Or it is the same as without a failure. Where a line is refused so, the run
-is made again with that line given twice: the second time it and every line after it have the usual replies.
+other line as if that line were not there; of `converge` the deliveries before the failure stand. Or it is the same as
+without a failure. Where a line is refused so, the run is made again with that line given twice: the second time it and
+every line after it have the usual replies. A script is one for `bgpsim converge` where a file .args beside it says so,
+as of a case; it has no `echo`.
 Exit 1 at the first run that does not. Of a folder the last line is `N passed, M failed`, a script on a machine
 being one.
 """
@@ -20,11 +22,11 @@ import os
 import pathlib
 from typing import Counter, Dict, List, Optional, Sequence, Tuple
 
-from . import commands, programs
+from . import commands, programs, run_cases
 from .allocation_faults import Injector, allocations, injector
 from .running import Ran, run, side_by_side
+from .script_faults import CONVERGE, SCRIPT, WANT, fewer, word
 
-WANT = b"refused 20 memory\n"
 AGAIN = "refused 20, and done when asked again"
 Words = Tuple[str, str]
 
@@ -56,23 +58,29 @@ class Script:
         at = replies.find(WANT)
         return next((i for i in reversed(list(self.befores)) if len(self.befores[i]) == at), None)
 
-    def without(self, i: int) -> bytes:
-        """The replies where line i is refused, and done no more."""
-        rest = self.run(self.begin(i) + b"".join(self.lines[i + 1:])).out
-        return self.befores[i] + WANT + rest[len(self.befores[i]):]
+    def done(self, i: int) -> List[bytes]:
+        """What may stand of line i where it is refused: nothing, or deliveries before the one that found no memory, as
+        a line that asks for so many."""
+        words = self.run(self.begin(i + 1)).out[len(self.befores[i]):].split()
+        is_counted = word(self.lines[i]) == CONVERGE and b"after" in words
+        count = int(words[words.index(b"after") + 1]) if is_counted else 0
+        return [b""] + [fewer(self.lines[i], n) for n in range(1, count)]
 
-    def repeated(self, i: int) -> Tuple[bytes, bytes]:
-        """The script with line i twice, and the replies where it is refused only the first time."""
-        text = b"".join(self.lines[:i + 1] + self.lines[i:])
-        return text, self.befores[i] + WANT + self.whole[len(self.befores[i]):]
+    def refused(self, i: int, done: bytes, rest: bytes) -> bytes:
+        """The replies where line i is refused, so much of it is done, and these lines follow."""
+        out = self.run(self.begin(i) + done + rest).out[len(self.befores[i]):]
+        return self.befores[i] + WANT + (out.split(b"\n", 1)[1] if done else out)
 
     def is_refused_well(self, ran: Ran, environment: Dict[str, str]) -> bool:
-        """Whether a line was refused as if it were not there, and is done when it is asked again."""
+        """Whether a line was refused as if it were not there, but for deliveries before the failure, and is done when
+        it is asked again."""
         i = self.refused_line(ran.out)
-        if ran.status or i is None or ran.out != self.without(i):
+        if ran.status or i is None:
             return False
-        again, wanted = self.repeated(i)
-        return self.run(again, environment).out == wanted
+        line, rest = self.lines[i], b"".join(self.lines[i + 1:])
+        again = self.run(self.begin(i) + line + line + rest, environment).out
+        return any(ran.out == self.refused(i, done, rest) and again == self.refused(i, done, line + rest)
+                   for done in self.done(i))
 
     def outcome(self, n: int) -> Optional[str]:
         """What came of the script where its allocation n fails, if it may be so."""
@@ -103,15 +111,22 @@ def tried(words: Words, inject: Injector, text: bytes, last: int = 0, step: int 
     return AGAIN in counts
 
 
+def subcommand(file: pathlib.Path) -> str:
+    """The subcommand that plays the script."""
+    return CONVERGE if run_cases.words_of(file.with_suffix("")) == [CONVERGE.encode()] else SCRIPT
+
+
 def try_folder(folder: pathlib.Path) -> int:
     """The same of each script of the folder, on the program and on each machine. Missing where one is not there."""
-    on: List[Words] = [(programs.bgpsim(), "script")]
-    on += [(programs.machine_scripts(), machine) for machine in programs.MACHINES]
+    by_program = programs.bgpsim()
+    machines: List[Words] = [(programs.machine_scripts(), machine) for machine in programs.MACHINES]
     came: List[bool] = []
     with injector() as inject:
-        for file, words in ((file, words) for file in sorted(folder.glob("*.bgp")) for words in on):
-            print("%s, %s %s: " % (file.name, os.path.basename(words[0]), words[1]), end="", flush=True)
-            came.append(tried(words, inject, file.read_bytes()))
+        for file in sorted(folder.glob("*.bgp")):
+            kind = subcommand(file)
+            for words in [(by_program, kind), *(machines if kind == SCRIPT else ())]:
+                print("%s, %s %s: " % (file.name, os.path.basename(words[0]), words[1]), end="", flush=True)
+                came.append(tried(words, inject, file.read_bytes()))
     return commands.counted(came.count(True), came.count(False))
 
 
@@ -129,5 +144,6 @@ def main(words: Sequence[str]) -> int:
     if not given.path.is_file():
         raise commands.Missing("there is no script %s" % given.path)
     with injector() as inject:
-        is_well = tried((programs.bgpsim(), "script"), inject, given.path.read_bytes(), given.lines, given.step)
+        by = programs.bgpsim(), subcommand(given.path)
+        is_well = tried(by, inject, given.path.read_bytes(), given.lines, given.step)
     return 0 if is_well else 1

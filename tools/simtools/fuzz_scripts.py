@@ -4,9 +4,10 @@
                                                    its commands followed by a copy that one byte is changed in, put
                                                    into or left out of; a network that then gets a command of each
                                                    form cut at each place; and lines of random bytes and words, with
-                                                   NULs, carriage returns and UTF-8. Then lines of 4,096, 4,097,
-                                                   65,536 and 65,537 bytes that begin or end about each place where
-                                                   a buffer may
+                                                   NULs, carriage returns and UTF-8. The same of scripts for
+                                                   `bgpsim converge`, which answers four lines more. Then lines of
+                                                   4,096, 4,097, 65,536 and 65,537 bytes that begin or end about
+                                                   each place where a buffer may
 
 The last line is `N passed, M failed`, a script being one; a part of the gate. Of a script that differs it prints
 the first line that is answered otherwise. PROGRAM= is another program than crates/bgpsim/out/bgpsim.
@@ -15,11 +16,12 @@ from __future__ import annotations
 
 import itertools
 import random
-from typing import Callable, Dict, Iterator, List, NamedTuple, Optional, Sequence, Tuple
+from typing import Any, Callable, Dict, Iterator, List, NamedTuple, Optional, Sequence, Tuple
 
 import model
 
-from . import agree, commands, programs, random_scripts
+from . import agree, commands, converge_scripts, programs, random_scripts
+from .agree import CONVERGE
 from .programs import TOP
 from .running import Ran, run, side_by_side
 
@@ -36,9 +38,10 @@ ODD = [b"\0", b"\r", b"\t", b"\x0b", b"\x7f", b"\x80", b"\xa0", b"\xff", b"\r\r"
 
 
 class Script(NamedTuple):
-    """A script that is compared, by the name that is printed of it."""
+    """A script that is compared, by the name that is printed of it, and the subcommand that plays it."""
     name: str
     text: bytes
+    subcommand: str = "script"
 
 
 # Scripts of a seed
@@ -51,16 +54,16 @@ def with_a_byte_changed(draw: random.Random, line: bytes) -> bytes:
                         first + rest[:1] + line[at:at + 1] + rest[1:]))
 
 
-def changed(seed: int) -> bytes:
+def changed(seed: int, generator: Any = random_scripts) -> bytes:
     """A random script; behind each command stands a copy with a byte changed."""
     draw = random.Random(seed)
-    lines = random_scripts.script(seed, 80).encode("latin-1").split(b"\n")[:-1]
+    lines = generator.script(seed, 80).encode("latin-1").split(b"\n")[:-1]
     return b"".join(line + b"\n" + with_a_byte_changed(draw, line) + b"\n" for line in lines)
 
 
-def cut(seed: int) -> bytes:
+def cut(seed: int, generator: Any = random_scripts) -> bytes:
     """A random script, and then a command of each form cut at each place."""
-    lines = random_scripts.script(seed, 80).split("\n")[:-1]
+    lines = generator.script(seed, 80).split("\n")[:-1]
     tour = (TOP / "examples" / "tour.bgp").read_text().split("\n")
     forms: Dict[Tuple[str, int], str] = {}
     for line in lines + tour:
@@ -71,24 +74,33 @@ def cut(seed: int) -> bytes:
     return "".join(line + "\n" for line in lines + pieces + ["quiet"] + lines[-40:]).encode("latin-1")
 
 
-def random_line(draw: random.Random) -> bytes:
-    """Bytes, or words with something between them."""
+def random_line(draw: random.Random, known: Sequence[str] = random_scripts.WORDS) -> bytes:
+    """Bytes, or these words with something between them."""
     if draw.random() < 0.4:
         return b"".join(draw.choices(draw.choice((SPARE, ODD)), k=draw.choice((0, 1, 2, 5, 20, 100, 5_000))))
-    words = [word.encode("latin-1") for word in draw.choices(random_scripts.WORDS, k=draw.choice((1, 2, 3, 4, 6, 9)))]
+    words = [word.encode("latin-1") for word in draw.choices(known, k=draw.choice((1, 2, 3, 4, 6, 9)))]
     return b"".join(word + draw.choice([b" "] * 8 + ODD) for word in words)
 
 
-def bytes_at_random(seed: int) -> bytes:
+def bytes_at_random(seed: int, generator: Any = random_scripts) -> bytes:
     """A random script with random lines between its own; now and then the last one has no end."""
     draw = random.Random(seed)
-    lines = random_scripts.script(seed, 40).encode("latin-1").split(b"\n")[:-1]
-    text = b"".join(b"".join(random_line(draw) + b"\n" for _ in range(draw.choice((0, 1, 1, 3)))) + line + b"\n"
+    lines = generator.script(seed, 40).encode("latin-1").split(b"\n")[:-1]
+    known = generator.WORDS
+    text = b"".join(b"".join(random_line(draw, known) + b"\n" for _ in range(draw.choice((0, 1, 1, 3)))) + line + b"\n"
                     for line in lines)
-    return text + draw.choice((b"", b"quiet", b"quiet\r", b"\r", b" ", random_line(draw)))
+    return text + draw.choice((b"", b"quiet", b"quiet\r", b"\r", b" ", random_line(draw, known)))
 
 
-KINDS: Sequence[Tuple[str, Callable[[int], bytes]]] = (("changed", changed), ("cut", cut), ("random", bytes_at_random))
+KINDS: Sequence[Tuple[str, Callable[..., bytes]]] = (("changed", changed), ("cut", cut), ("random", bytes_at_random))
+
+
+def scripts_of(seed: int) -> Iterator[Script]:
+    """The scripts of a seed: of each kind, and of each kind for `bgpsim converge`."""
+    for name, kind in KINDS:
+        yield Script("%s, seed %d" % (name, seed), kind(seed))
+        text = converge_scripts.bounded(kind(seed, converge_scripts))
+        yield Script("%s, %s, seed %d" % (CONVERGE, name, seed), text, CONVERGE)
 
 
 # Long lines
@@ -124,11 +136,11 @@ def long_scripts() -> Iterator[Script]:
 
 # Comparing
 
-def by_model(text: bytes) -> Ran:
+def by_model(text: bytes, subcommand: str = "script") -> Ran:
     """What the model answers."""
     replies: List[str] = []
     try:
-        for reply in model.play(text):
+        for reply in model.play(text, model.answer_converge if subcommand == CONVERGE else model.answer):
             replies.append(reply + "\n")
     except model.ReadFault as fault:
         return Ran("".join(replies).encode("latin-1"), b"read fault at line %d\n" % fault.args[0], 3)
@@ -137,16 +149,16 @@ def by_model(text: bytes) -> Ran:
 
 def compare(script: Script) -> Tuple[int, Optional[str]]:
     """How many lines a script has, and what is reported of it where it is answered otherwise."""
-    words = (programs.bgpsim(), "script")
+    words = (programs.bgpsim(), script.subcommand)
     count = script.text.count(b"\n")
-    if run(words, script.text) == by_model(script.text):
+    if run(words, script.text) == by_model(script.text, script.subcommand):
         return count, None
     *ended, last = script.text.split(b"\n")
     return count, agree.account(script.name, words, [line + b"\n" for line in ended] + ([last] if last else []))
 
 
 def scripts(seeds: range) -> Iterator[Script]:
-    yield from (Script("%s, seed %d" % (name, seed), kind(seed)) for seed in seeds for name, kind in KINDS)
+    yield from itertools.chain.from_iterable(map(scripts_of, seeds))
     yield from long_scripts()
 
 

@@ -1,21 +1,17 @@
 """Writes a random script of commands, most of them accepted, some refused or malformed, and every question at its
 end.
 
-    tools/random-scripts SEED [LINES]        the same seed and number of lines (150) give the same script
+    tools/random-scripts [--converge] SEED [LINES]        the same seed and number of lines (150) give the same script
 
-For comparing the program with tools/model.py over many scripts, where tools/agree is not asked:
-
-    for seed in $(seq 1000); do
-        tools/random-scripts $seed > /tmp/script
-        cmp <(./bgpsim script < /tmp/script) <(python3 tools/model.py < /tmp/script) || echo "seed $seed"
-    done
+With --converge it is a script for `bgpsim converge`, with the lines that only this answers. tools/agree compares the
+program with tools/model.py over many scripts.
 """
 from __future__ import annotations
 
 import random
 import sys
 from collections import Counter
-from typing import Collection, Dict, Iterable, List, Sequence, Set, Tuple, TypeVar
+from typing import Callable, Collection, Dict, Iterable, List, Sequence, Set, Tuple, TypeVar
 
 from . import commands
 from .language import MOST_COMMUNITIES, WELL_KNOWN
@@ -34,6 +30,8 @@ Ends = Tuple[str, ...]
 
 class Script:
     """The lines so far, and what is known of the network that they make."""
+    # What malformed lines are made of.
+    words = WORDS
 
     def __init__(self, seed: int):
         self.random = random.Random(seed)
@@ -253,9 +251,9 @@ class Script:
         if how == 0:
             del words[at]
         elif how == 1:
-            words.insert(at, self.some(WORDS))
+            words.insert(at, self.some(self.words))
         elif how == 2:
-            words[at] = self.some(WORDS)
+            words[at] = self.some(self.words)
         elif how == 3:
             words[at] = words[at] + self.some(["\t", "0", ".", "/", "\x7f", "é", "x", ","])
         elif how == 4:
@@ -345,11 +343,15 @@ class Script:
         self.add_all("join %s %s" % ends for ends in inside + row[len(routers) - 1:])
         self.add_all("client %s %s on" % tuple(self.random.sample(ends, 2)) for ends in inside if self.chance(0.5))
 
-    def go_on(self, count: int) -> None:
+    def kinds(self) -> List[Callable[[], str]]:
+        """What makes a line; of those that stand there several times more are made."""
         kinds = [self.deliver] * 5 + [self.feed] * 9 + [self.question] * 5 + [self.change_link] * 4
         kinds += [self.change_origin] * 3 + [self.mark] * 4 + [self.add_rule] * 5 + [self.change_session] * 2
         kinds += [self.malformed] * 2 + [self.set_med] * 2 + [self.clear_rules, self.set_cluster]
-        kinds += [self.add_node, self.add_link, self.add_session]
+        return kinds + [self.add_node, self.add_link, self.add_session]
+
+    def go_on(self, count: int) -> None:
+        kinds = self.kinds()
         while len(self.lines) < count:
             if self.sessions and self.chance(0.07):
                 self.burst()
@@ -371,23 +373,28 @@ class Script:
         self.add("quiet")
 
 
-def script(seed: int, count: int = 150) -> str:
-    """The script of a seed: so many lines, and then the questions."""
-    made = Script(seed)
-    if seed % 2:
-        made.build_one_as()
-    else:
-        made.build()
+def completed(made: Script, is_one_as: bool, count: int) -> List[str]:
+    """The lines of a script that has none yet: so many, and then the questions."""
+    build = made.build_one_as if is_one_as else made.build
+    build()
     made.go_on(count)
     made.ask_everything()
-    return "".join(line + "\n" for line in made.lines)
+    return made.lines
+
+
+def script(seed: int, count: int = 150) -> str:
+    """The script of a seed: so many lines, and then the questions."""
+    return "".join(line + "\n" for line in completed(Script(seed), seed % 2 == 1, count))
 
 
 def main(words: Sequence[str]) -> int:
     """The command."""
     asked = commands.parser(__doc__)
+    asked.add_argument("--converge", action="store_true")
     asked.add_argument("seed", type=int, metavar="SEED")
     asked.add_argument("lines", type=commands.number, nargs="?", default=150, metavar="LINES")
     given = asked.parse_args(words)
-    sys.stdout.buffer.write(script(given.seed, given.lines).encode("latin-1"))
+    from . import converge_scripts      # it reads this module
+    make = converge_scripts.script if given.converge else script
+    sys.stdout.buffer.write(make(given.seed, given.lines).encode("latin-1"))
     return 0

@@ -1,5 +1,6 @@
 """Fault injection, stress tests and fuzzing: what each tool says of a program that forgets, loses, crashes or answers
 otherwise."""
+import collections
 import os
 import random
 import re
@@ -11,8 +12,9 @@ import unittest.mock
 from common import TOP, Case
 
 import model
-from simtools import (compile_fail, fail_allocations, failing_streams, fuzz_logs, fuzz_scripts, growth, line_faults,
-                      logs, programs, run_cases, small_stacks, stress, team_logs, try_mutants)
+from simtools import (compile_fail, converge_scripts, fail_allocations, failing_streams, fuzz_logs, fuzz_scripts,
+                      growth, line_faults, logs, programs, run_cases, script_faults, small_stacks, stress, team_logs,
+                      try_mutants)
 from simtools.running import Ran
 from test_tools import called, command
 
@@ -57,8 +59,8 @@ class FailAllocations(Case):
         subprocess.run(["cc", *flags, "-o", path, str(self.file("program.c", SOURCE))], check=True)
         replies = b"".join(b"yes\n" if line == b"quiet\n" else b"ok %d\n" % (n + 1) for n, line in enumerate(lines))
         with line_faults.library() as library:
-            case = fail_allocations.Case("here", list(lines), replies)
-            told, counts = fail_allocations.ScriptFaults(library, (path, "script"), case, None).faults()
+            case = script_faults.Case("here", list(lines), replies)
+            told, counts = script_faults.ScriptFaults(library, (path, "script"), case, None).faults()
         return told, {name: count for name, count in counts.items() if count}
 
     def test_each_growth_of_each_line(self):
@@ -83,9 +85,9 @@ class FailAllocations(Case):
         self.assertTrue(told[0].startswith("with nothing refused: status -6"), told)
 
     def test_what_a_copy_may_write(self):
-        tried = fail_allocations.ScriptFaults("", (), fail_allocations.Case("here", [b"a\n"], b""), None)
-        want = fail_allocations.WANT
-        one = fail_allocations.Expected(b"a\n", 2, [want + b"x\n"], b"ok\nx\n")
+        tried = script_faults.ScriptFaults("", (), script_faults.Case("here", [b"a\n"], b""), None)
+        want = script_faults.WANT
+        one = script_faults.Expected(b"a\n", 2, [want + b"x\n"], b"ok\nx\n")
         for out, is_refused, status, is_well in (
                 (want + b"x\n", True, 0, True), (want + b"x\n", False, 0, False), (want + b"y\n", True, 0, False),
                 (b"ok\nx\n", True, 0, True), (b"ok\nx\n", False, 0, True), (b"ok\ny\n", True, 0, False),
@@ -94,39 +96,60 @@ class FailAllocations(Case):
             self.assertEqual(told == [], is_well, (out, is_refused, status))
 
     def test_who_may_want_memory(self):
-        tried = fail_allocations.ScriptFaults("", (), fail_allocations.Case("here", [], b""), None)
+        tried = script_faults.ScriptFaults("", (), script_faults.Case("here", [], b""), None)
         for line, reply, may in ((b"feed 1.0.0.1 2.0.0.1 update x", b"refused 19 limit\n", True),
                                  (b"feed 1.0.0.1 2.0.0.1 update x", b"refused 1 syntax\n", False),
                                  (b"feed 1.0.0.1 2.0.0.1 withdraw x", b"refused 2 no-router\n", False),
                                  (b"router x", b"refused 3 router-exists\n", False), (b"router x", b"ok\n", True),
                                  (b"quiet", b"yes\n", False)):
-            self.assertEqual(tried.may_want(fail_allocations.Expected(line, 1, [], reply)), may, line)
+            self.assertEqual(tried.may_want(script_faults.Expected(line, 1, [], reply)), may, line)
 
     def test_calls_of_a_room(self):
         path = self.file("here.calls", "# a comment\njob\n> none\nopen\nbook\n> edits 0\n> ok\n")
-        case = fail_allocations.calls_in(path)
+        case = script_faults.calls_in(path)
         self.assertEqual(case.lines, [b"# a comment\n", b"job\n", b"open\n", b"book\n"])
         self.assertEqual(case.replies, b"none\nok\nedits 0\nok\n")
-        room = fail_allocations.RoomFaults("", (), case, None)
+        room = script_faults.RoomFaults("", (), case, None)
         for reply, may in ((b"none\n", False), (b"stale: edits 1, now 2\n", False), (b"edits 0\n", False),
                            (b"refused 1 syntax\n", False), (b"refused 2 no-router\n", True), (b"yes\n", True),
                            (b"stale: no message\n", True), (b"done\n", True)):
-            self.assertEqual(room.may_want(fail_allocations.Expected(b"x\n", 1, [], reply)), may, reply)
+            self.assertEqual(room.may_want(script_faults.Expected(b"x\n", 1, [], reply)), may, reply)
 
     def test_calls_that_are_made_together(self):
         """Of two deliveries none or one is made where memory was refused, or one is taken; the third is not there."""
-        room = fail_allocations.RoomFaults("", (), fail_allocations.Case("here", [], b""), None)
-        given = room.once(fail_allocations.TOGETHER)
+        room = script_faults.RoomFaults("", (), script_faults.Case("here", [], b""), None)
+        given = room.once(script_faults.TOGETHER)
         self.assertEqual([one.count(b"commit\n") for one in given], [0, 1, 2, 3])
         self.assertEqual([one.count(b"commit\n") for one in room.once(b"quiet\n")], [0])
         two = b"from a to b\ndone\ntook p update\n"
         once = [b"0\nok\n2\n", two + b"1\nok\n2\n", 2 * two + b"2\nok\n2\n", 2 * two + b"none\nnone\nnone\n2\nok\n2\n"]
-        left = room.left(fail_allocations.TOGETHER, b"ok\n2\nok\n2\n", once)
-        want = fail_allocations.WANT
+        left = room.left(script_faults.TOGETHER, b"ok\n2\nok\n2\n", once)
+        want = script_faults.WANT
         self.assertEqual(left, [want + b"0\nok\n2\n", want + b"1\nok\n2\n", b"ok\n1\nok\n2\n"])
 
+    def test_deliveries_that_stand(self):
+        """A line asks for fewer messages; those that were delivered before memory ran out stand, and are written."""
+        for line, fewer in ((b"converge\n", b"converge 3\n"), (b"converge fair 9 echo\n", b"converge fair 3 echo\n"),
+                            (b"converge  router\n", b"converge router 3\n"), (b"converge 7\n", b"converge 3\n"),
+                            (b"converge random 5 9\n", b"converge random 5 3\n"),
+                            (b"converge echo\n", b"converge 3 echo\n")):
+            self.assertEqual(script_faults.fewer(line, 3), fewer)
+        tried = script_faults.ConvergeFaults("", (), script_faults.Case("here", [], b""), None)
+        want, counted = script_faults.WANT, b"not converged after 1 (1 updates, 0 withdrawals)\n"
+        self.assertEqual(tried.left(b"converge\n", b"", [b"no\n", counted + b"yes\n"]),
+                         [want + b"no\n", want + b"yes\n"])
+        told = b"deliver a b\ntook p update\n"
+        self.assertEqual(tried.left(b"converge echo\n", b"", [b"no\n", told + counted + b"yes\n"]),
+                         [want + b"no\n", told + want + b"yes\n"])
+        for line in (b"waiting", b"restore 1", b"restore 9"):
+            self.assertFalse(tried.may_want(script_faults.Expected(line, 1, [], b"ok\n")), line)
+
+    def test_snapshots_of_the_program(self):
+        status, told = called(fail_allocations.main, "--on", "bgpsim", TOP / "cases" / "memory" / "snapshots.bgp")
+        self.assertEqual((status, told.split("\n")[-2]), (0, "3 passed, 0 failed"), told)
+
     def test_questions_ask_for_all_there_is(self):
-        asked = fail_allocations.questions([b"router 1.0.0.1 1\n", b"virtual 2.0.0.1 2\n", b"join 1.0.0.1 2.0.0.1\n",
+        asked = script_faults.questions([b"router 1.0.0.1 1\n", b"virtual 2.0.0.1 2\n", b"join 1.0.0.1 2.0.0.1\n",
                                           b"origin 1.0.0.1 10.0.0.0/8\n"]).decode().split("\n")
         for line in ("routes 1.0.0.1", "cost 1.0.0.1 2.0.0.1", "why 2.0.0.1 10.0.0.0/8", "trace 1.0.0.1 10.0.0.0",
                      "in 2.0.0.1 1.0.0.1", "out 1.0.0.1 2.0.0.1", "queue 2.0.0.1 1.0.0.1", "quiet"):
@@ -226,6 +249,14 @@ class FuzzScripts(Case):
         self.assertIn(b"\0", kinds["random"](1))
         # each line is answered, but comments and blank lines
         self.assertGreater(fuzz_scripts.by_model(kinds["cut"](1)).out.count(b"refused 1 syntax"), 500)
+        self.assertIn(b"\nsnapsho\nsnapshot\n", kinds["cut"](1, converge_scripts))
+
+    def test_lines_without_end(self):
+        """Two ASes change their minds for ever in the fair order, and not in that of this seed."""
+        network = (TOP / "cases" / "converge" / "disagree.bgp").read_bytes().split(b"waiting\n")[0]
+        left = b"converge  random 0\nconverge 60\nconverge router 1000 echo\r\nconverge 1000 loud\nconverge 01\nquiet\r"
+        out = b"converge\nconverge fair 61\r\n  converge  fair  4294967295 echo \n"
+        self.assertEqual(converge_scripts.bounded(network + out + left), network + left)
 
     def test_a_program_that_answers_otherwise(self):
         program = self.file("other", "#!/bin/sh\n%s %s | sed 's/^refused 1 .*/ok/'\n" % programs.MODEL)
@@ -237,8 +268,9 @@ class FuzzScripts(Case):
         self.assertEqual(told, "here, line 2: quiet\0\n    model: 'refused 1 syntax\\n'\n    script: 'ok\\n'")
 
     def test_the_program(self):
-        for name, kind in fuzz_scripts.KINDS:
-            self.assertEqual(fuzz_scripts.compare(fuzz_scripts.Script(name, kind(77)))[1], None)
+        scripts = list(fuzz_scripts.scripts_of(77))
+        self.assertEqual(collections.Counter(script.subcommand for script in scripts), {"script": 3, "converge": 3})
+        self.assertEqual([fuzz_scripts.compare(script)[1] for script in scripts], 6 * [None])
 
 
 @unittest.skipUnless(shutil.which("cc"), NO_CC)

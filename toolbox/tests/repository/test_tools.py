@@ -17,9 +17,9 @@ import unittest.mock
 from common import PATIENCE, TOP, Case
 
 import model
-from simtools import (allocation_faults, bench_tables, commands, fail_script_allocations, language, left_out, loads,
-                      logs, memory_refusals, programs, random_igp, random_scripts, real_routers, running, speaker,
-                      stream_faults, teams, trusted_base, try_mutants)
+from simtools import (allocation_faults, bench_tables, commands, converge_scripts, fail_script_allocations, language,
+                      left_out, loads, logs, memory_refusals, programs, random_igp, random_scripts, real_routers,
+                      running, speaker, stream_faults, teams, trusted_base, try_mutants)
 
 NOWHERE = "/nowhere/bgpsim"
 NOT_THERE = "there is no program %s: PROGRAM= names it\n" % NOWHERE
@@ -315,6 +315,28 @@ class RandomScripts(Case):
         text = "".join(random_igp.script(seed, 17) for seed in (3, 5))
         self.assertEqual(sha256(text), "33388e02958926dddccc916bdc9be9df189eccfb1d3bfc10bbe65a7c0bb0766c")
 
+    def test_scripts_for_converge(self):
+        """Few scripts have each order with and without a limit and an echo, and each answer of a line."""
+        ran = command("tools/random-scripts", "--converge", 5, 300)
+        self.assertEqual(ran.stdout, converge_scripts.script(5, 300))
+        self.assertEqual(sha256(ran.stdout), "8ac4ac2e7aa90b5234969ef1cdc14f77c626d4efd8ebbbea460b4c3fe944f6e4")
+        answers, forms = collections.Counter(), set()
+        for seed in range(1, 31):
+            net = model.Net()
+            for line in converge_scripts.script(seed).split("\n")[:-1]:
+                told = model.answer_converge(net, line.rstrip("\r"))
+                if line.split()[:1] in (["converge"], ["waiting"], ["snapshot"], ["restore"]):
+                    forms.add(re.sub("[0-9]+", "N", line))
+                    answers[line.split()[0], re.sub(r"[0-9]+|syntax", "N", told[-1].split(" (")[0])] += 1
+        forms_wanted = {"converge" + order + most + echo for order in ("", " fair", " router", " random N")
+                        for most in ("", " N") for echo in ("", " echo")}
+        self.assertEqual(forms_wanted - forms, set())
+        for wanted in (("converge", "converged after N"), ("converge", "not converged after N"),
+                       ("converge", "refused N N"), ("waiting", "end N"), ("waiting", "refused N N"),
+                       ("snapshot", "snapshot N"), ("snapshot", "refused N N"), ("restore", "ok"),
+                       ("restore", "no snapshot N"), ("restore", "refused N N")):
+            self.assertGreater(answers[wanted], 0, wanted)
+
     def test_forms_of_communities(self):
         """All stand in few scripts."""
         lines = "".join(map(random_scripts.script, range(1, 41))).split("\n")
@@ -420,6 +442,14 @@ class Comparing(Other):
         self.assertRegex(ran.stdout, (r"\Aseed 1, script, line 1: .*\n    model: 'ok\\n'\n    script: 'well\\n'\n"
                                       r"1 scripts, [0-9]+ lines, 1 differ\n\Z"))
 
+    def test_a_script_for_converge_that_is_answered_otherwise(self):
+        program = self.other("%s %s converge | sed 's/^converged/convergent/'" % programs.MODEL)
+        ran = command("tools/agree", "--converge", "--scripts", 1, PROGRAM=program)
+        self.assertEqual((ran.returncode, ran.stderr), (1, ""))
+        self.assertRegex(ran.stdout, (r"\Aseed 1, converge, line [0-9]+: .*converge.*\n"
+                                      r"    model: '.*converged after .*'\n    converge: '.*convergent after .*'\n"
+                                      r"1 scripts, [0-9]+ lines, 1 differ\n\Z"))
+
     def test_a_log_that_is_found_to_be_something_else(self):
         ran = command("tools/logs", "agree", "--scripts", 1, PROGRAM=self.other("cat > /dev/null\necho ok 0"))
         self.assertEqual(ran.returncode, 1)
@@ -492,6 +522,16 @@ class FailScriptAllocations(Case):
         # of one line alone it is only seen where it is asked again
         self.assertEqual(self.refused(False, fail_script_allocations.main, self.file("one.bgp", "quiet\n")), (
             1, "allocation 2 refused: status 0, b'refused 20 memory\\n', b''\n"))
+
+    def test_deliveries_before_the_failure_stand(self):
+        """Each delivery takes memory; the script is one for converge, as the file beside it says."""
+        network = (TOP / "cases" / "converge" / "first.bgp").read_text().split("waiting\n")[0]
+        script = self.file("waits.bgp", network + "snapshot\nconverge random 7\nwaiting\nrestore 1\nwaiting\nquiet\n")
+        self.assertNotEqual(called(fail_script_allocations.main, script, 6)[0], 0)
+        self.file("waits.args", "converge\n")
+        status, told = called(fail_script_allocations.main, script, 6)
+        self.assertRegex(told, r"\A[0-9]+ allocations refused in turn: (as ever: [0-9]+, )?refused 20, .*: [0-9]+\n\Z")
+        self.assertEqual(status, 0)
 
     def test_a_folder(self):
         self.file("scripts/three.bgp", "quiet\n" * 3)
