@@ -9,9 +9,10 @@ from typing import Dict, FrozenSet, Iterable, List, Optional, Set, Tuple
 from ..convergence.run import Run
 from ..network.answers import Answers
 from ..network.configuration import Direction, Network
+from ..network.probes import probes_of
 from ..program.language import address, contains, prefix, show_address, words_of
 from ..program.language_table import FORMS
-from .comparison import Difference, Packet, probes_of
+from .comparison import Difference, Packet
 
 EDITS_LINKS = frozenset(form.name for form in FORMS if form.scope == "ases")
 

@@ -2,12 +2,13 @@
 from __future__ import annotations
 
 from dataclasses import dataclass, field
-from typing import Callable, Dict, Iterable, List, Optional, Set, Tuple
+from typing import Callable, Dict, List, Optional, Set, Tuple
 
 from ..network.answers import Answers
 from ..network.configuration import Direction, Network, Pair, pair
+from ..network.probes import probes_of
 from ..program import communities
-from ..program.language import by_address, by_prefix, contains, prefix, show_address, words_of
+from ..program.language import by_address, by_prefix, show_address, words_of
 from ..program.language_table import BEST
 from ..program.output import Progress
 from ..program.reasons import named
@@ -190,15 +191,3 @@ def _ways(before: Answers, after: Answers, asked: List[Packet], is_all: bool) ->
         progress.tell("%d of %d packets followed .." % (start, len(asked)))
     progress.done()
     return found
-
-
-def probes_of(prefixes: Iterable[str]) -> List[int]:
-    """An address of each prefix that is in no longer one, where there is such an address among the first, the last and the middle one."""
-    known = sorted(prefixes, key=by_prefix)
-    found = []
-    for one in filter(None, map(prefix, known)):
-        size = 2 ** (32 - one[1])
-        inner = [other for other in map(prefix, known) if other and other != one and contains(one, other)]
-        tried = [one[0] + offset for offset in (min(1, size - 1), max(size - 2, 0), size // 2, size // 4, 3 * size // 4)]
-        found.append(next((each for each in tried if not any(contains(other, (each, 32)) for other in inner)), tried[0]))
-    return sorted(set(found))
