@@ -68,6 +68,12 @@ class Baseline(Answers):
         for words in (words_of(line) for line in self._lines if line.startswith("feed")):
             self.feeds[(words[1], words[2]), words[4]] = " ".join(words)
 
+    @property
+    def loops(self) -> int:
+        """How many packets that were followed go round."""
+        return sum(question.startswith("trace ") and reply[-2].startswith("loop ")
+                   for question, reply in self.replies.items())
+
     def addresses(self, prefixes: Set[str]) -> List[str]:
         """The addresses to which packets are followed where these prefixes are there."""
         key = frozenset(prefixes)

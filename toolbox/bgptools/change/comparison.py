@@ -43,7 +43,7 @@ class Way:
 
 @dataclass
 class Difference:
-    """What differs."""
+    """What differs. `standing` are the packets that go round before and after."""
     routers: Dict[str, List[Change]] = field(default_factory=dict)
     came: List[str] = field(default_factory=list)
     down: List[Direction] = field(default_factory=list)
@@ -51,6 +51,7 @@ class Difference:
     told: Dict[Direction, List[Change]] = field(default_factory=dict)
     ways: List[Way] = field(default_factory=list)
     asked: List[Way] = field(default_factory=list)
+    standing: List[Way] = field(default_factory=list)
 
     @property
     def loops(self) -> List[Way]:
@@ -78,13 +79,21 @@ def compare(before: Answers, after: Answers, asked: List[Packet],
         _tell_why(before, after, found)
     _compare_told(before, after, found)
     packets = chosen(found) if chosen else packets_of(before.network, after.network)
-    found.ways = _ways(before, after, packets, is_all=False)
-    found.asked = _ways(before, after, asked, is_all=True)
+    followed = _ways(before, after, packets, lambda old, new: old != new or old[-2].startswith("loop "))
+    found.ways = [way for way in followed if way.before != way.after]
+    found.standing = [way for way in followed if way.before.end == way.after.end == "loop"]
+    found.asked = _ways(before, after, asked, lambda *_: True)
     return found
 
 
 def _changes(old: Dict[str, Route], new: Dict[str, Route]) -> List[Change]:
     return [Change(p, old.get(p), new.get(p)) for p in sorted({*old, *new}, key=by_prefix) if old.get(p) != new.get(p)]
+
+
+def is_gained_outside(network: Network, router: str, change: Change) -> bool:
+    """Whether a router gained a route from another AS: what leaks shows there."""
+    source = change.after.source if change.before is None and change.after else None
+    return source in network.nodes and network.is_external(router, str(source))
 
 
 def packets_of(before: Network, after: Network) -> List[Packet]:
@@ -179,14 +188,15 @@ def _compare_told(before: Answers, after: Answers, found: Difference) -> None:
             found.told[router, peer] = changes
 
 
-def _ways(before: Answers, after: Answers, asked: List[Packet], is_all: bool) -> List[Way]:
-    """How these packets go: all of them, or those whose way changed."""
+def _ways(before: Answers, after: Answers, asked: List[Packet],
+          is_wanted: Callable[[List[str], List[str]], bool]) -> List[Way]:
+    """How those of these packets go that are wanted, by the replies to `trace` before and after."""
     progress, found = Progress(), []
     for start in range(0, len(asked), 500):
         part = asked[start:start + 500]
         lines = ["trace %s %s" % each for each in part]
         for (router, to), old, new in zip(part, before.ask(lines), after.ask(lines)):
-            if is_all or old != new:
+            if is_wanted(old, new):
                 found.append(Way(router, to, trace(old), trace(new)))
         progress.tell("%d of %d packets followed .." % (start, len(asked)))
     progress.done()

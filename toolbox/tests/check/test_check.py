@@ -194,3 +194,39 @@ class Planted(Case):
             lost = {each["router"] for each in found["lacking"]}
             self.assertEqual(len(cells), 2 * (size - size // 2))
             self.assertTrue(lost <= {start for start, _ in cells})
+
+
+class OtherTools(Case):
+    """Leaks and standing loops, as what-if and sweep tell them."""
+    LEAK = "clear %s %s out\n" % (router(3), PROVIDER)
+    MOVE = "rule %s %s in any permit pref=150\nstop %s %s\nstart %s %s\n%s\n" % (
+        (router(2), CUSTOMER) * 3 + ("\n".join(line for line in network(40) if line.startswith("feed " + CUSTOMER)),))
+
+    def told(self, name, *words):
+        ran = inside(name, *words)
+        self.assertEqual(ran.stderr, "")
+        return ran.stdout.split("\n")
+
+    def test_a_leak_is_told_before_what_moves_inside(self):
+        base = self.file("net.bgp", "\n".join(network(40)) + "\n")
+        lines = self.told("what-if", base, self.file("both", self.LEAK + "noorigin %s %s\n" % (router(5), OWN)))
+        title = "Told to external neighbours, and not before"
+        places = [lines.index(each) for each in (title, "Router r0 (5.0.0.0)", "Told to external neighbours")]
+        self.assertEqual(places, sorted(places))
+        gained = [line.split() for line in lines[places[0]:places[1]] if line.startswith("    gained")]
+        self.assertEqual([word.rstrip(",") for words in gained for word in words[1:]], FED[PEER])
+
+    def test_a_leak_ranks_before_routes_that_move(self):
+        base = self.file("net.bgp", "\n".join(network(40)) + "\n")
+        self.file("changes/a-move", self.MOVE)
+        self.file("changes/b-leak", self.LEAK)
+        rows = [line.split()[:2] for line in self.told("sweep", base, "--changes", self.folder / "changes") if line.startswith("  file")]
+        self.assertEqual(rows, [["file", "b-leak"], ["file", "a-move"]])
+
+    def test_a_loop_of_the_base_is_told(self):
+        base, change = self.file("net.bgp", "\n".join(loop(40)) + "\n"), self.file("changes/one", "origin 6.0.0.6 10.0.0.0/8\n")
+        wanted = "Loops before the change and after it: 2 packets, as from 6.0.0.2 to 203.0.113.1; `check` of the base explains them"
+        self.assertIn(wanted, self.told("what-if", base, change))
+        self.assertIn(wanted, json.loads(inside("what-if", base, change, "--json").stdout)["notes"])
+        self.assertIn("2 packets go round in loops of the base itself, which `check %s` explains" % base,
+                      self.told("sweep", base, "--changes", self.folder / "changes"))
