@@ -91,9 +91,10 @@ def _changes(old: Dict[str, Route], new: Dict[str, Route]) -> List[Change]:
 
 
 def is_gained_outside(network: Network, router: str, change: Change) -> bool:
-    """Whether a router gained a route from another AS: what leaks shows there."""
+    """Whether a router gained a route, its own or one from another AS: a leak or a hijack shows there, and what it does
+    inside an AS does not."""
     source = change.after.source if change.before is None and change.after else None
-    return source in network.nodes and network.is_external(router, str(source))
+    return source == "self" or source in network.nodes and network.is_external(router, str(source))
 
 
 def packets_of(before: Network, after: Network) -> List[Packet]:

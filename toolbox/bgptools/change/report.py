@@ -104,7 +104,7 @@ def _changes(changes: List[Change], names: Names, is_whole: bool, moved: str = "
 
 
 def _routers(difference: Difference, network: Network, is_whole: bool) -> List[str]:
-    """What changed at routers; first at those that gained a route from another AS, as of a leak."""
+    """What changed at routers; first at those that gained a route which is not from inside their AS, as of a leak."""
     names = network.names
     in_order = sorted(difference.routers.items(), key=lambda item: not any(
         is_gained_outside(network, item[0], change) for change in item[1]))
