@@ -131,7 +131,7 @@ def _notes(outcome: Outcome) -> List[str]:
     names, endless = outcome.network.names, outcome.not_converged
     told = [converged_otherwise(done, names) for done in [outcome.base] + outcome.done if done.first]
     told += standing_text(outcome.difference)
-    return told + ([not_converged(endless, names)] if endless else [])
+    return list(outcome.broken) + told + ([not_converged(endless, names)] if endless else [])
 
 
 def deliveries_of(done: Convergence) -> Tuple[Delivery, ...]:

@@ -199,7 +199,8 @@ def text_of(outcome: Outcome, is_all: bool) -> str:
     """The outcome for a reader. Where it is long, equal changes are told as one, and of much of a kind the first; not where all is asked for."""
     difference, names = outcome.difference, outcome.network.names
     is_whole = is_all or not is_long(difference)
-    lines = summary(difference) if is_long(difference) else []
+    lines = ["Broken invariants", *("  " + each for each in outcome.broken)] if outcome.broken else []
+    lines += summary(difference) if is_long(difference) else []
     gained, told = _told_parts(difference)
     lines += _told("Told to external neighbours, and not before", gained, names, is_whole)
     lines += _routers(difference, outcome.network, is_whole) + _sessions(difference, names, is_whole)

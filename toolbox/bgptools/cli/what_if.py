@@ -8,7 +8,7 @@ from typing import List, Optional, Tuple
 from ..change.comparison import compare
 from ..change.effect import Outcome
 from ..change.report import text_of
-from ..change.what_if import changed, parser, converged_base
+from ..change.what_if import broken, changed, parser, converged_base
 from ..convergence.run import Run
 from ..program import display
 from ..program.language import address
@@ -43,7 +43,8 @@ def main(words: Optional[List[str]] = None) -> int:
         asked = _asked(base, chosen.trace)
         after, watch, done = changed(base, read(chosen.change), chosen)
         with after:
-            outcome = Outcome(compare(base, after, asked), watch, converged, done)
+            found = broken(chosen.invariants, base, after)
+            outcome = Outcome(compare(base, after, asked), watch, converged, done, found)
     if chosen.json:
         sys.stdout.write(_json(outcome, chosen))
     else:

@@ -20,10 +20,9 @@ KINDS = {"moved": MOVED, "lost": LOST, "gained": GAINED}
 class Figures:
     """What a change does. `routes` has the numbers of each router with any; `down` counts sessions, `told` external
     neighbours that are told otherwise; `packets` go another way, `black_holes` and `loops` among them; `captured` counts
-    the ASes whose packets a hijack leads to the hijacker; `gained_outside` routes gained that come not from
-    inside the AS. `is_single` says
-    that one failure takes from others what was not the failed router's own. `state` tells the routes of all routers
-    apart from others, of a random order. `text` is what what-if tells; `mistake` why it tells nothing. `is_lost` says
+    the ASes whose packets a hijack leads to the hijacker; `gained_outside` counts gained routes that come not
+    from inside the AS. `is_single` says that one failure takes from others what was not the failed router's own.
+    `state` tells the routes of all routers apart from others, of a random order. `text` is what what-if tells; `mistake` why it tells nothing. `is_lost` says
     that what tried it died each time: it may be tried again."""
     moved: int = 0
     captured: int = 0

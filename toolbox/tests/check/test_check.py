@@ -230,3 +230,16 @@ class OtherTools(Case):
         self.assertIn(wanted, json.loads(inside("what-if", base, change, "--json").stdout)["notes"])
         self.assertIn("2 packets go round in loops of the base itself, which `check %s` explains" % base,
                       self.told("sweep", base, "--changes", self.folder / "changes"))
+
+    def test_invariants_that_a_change_breaks_are_told_first(self):
+        base, change = self.file("net.bgp", "\n".join(network(40)) + "\n"), self.file("leak", self.LEAK)
+        already = "r7 reaches 10.0.0.0/8"
+        rules = self.file("rules", "%s\n%sr7 reaches %s\n" % (already, ROLES, OWN))
+        lines = self.told("what-if", base, change, "--invariants", rules)
+        self.assertEqual(lines[0], "Broken invariants")
+        self.assertTrue(lines[1].startswith("  r3 (%s) tells %s, a provider, %s, learned from AS 103" % (
+            router(3), PROVIDER, ", ".join(FED[PEER]))), lines[1])
+        self.assertEqual(lines[2], "  `%s`: r7 (%s): no route there" % (already, router(7)))
+        self.assertEqual(lines[3], "Told to external neighbours, and not before")
+        told = json.loads(inside("what-if", base, change, "--json", "--invariants", rules).stdout)["notes"]
+        self.assertEqual(told, [each[2:] for each in lines[1:3]])
