@@ -113,6 +113,11 @@ class Case(unittest.TestCase):
         self.addCleanup(folder.cleanup)
         self.folder = pathlib.Path(folder.name)
 
+    def subTest(self, msg=None, **params):
+        """A part of a test, whose parameters are shown as text: pytest-xdist passes on no others."""
+        shown = {name: value if isinstance(value, (int, str)) else str(value) for name, value in params.items()}
+        return super().subTest(*([] if msg is None else [msg]), **shown)
+
     def file(self, name, text):
         """A file of this text in the test's folder."""
         path = self.folder / name

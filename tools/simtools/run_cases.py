@@ -99,7 +99,8 @@ def wanted(case: pathlib.Path) -> Wanted:
 def cases_in(path: pathlib.Path) -> Tuple[Set[pathlib.Path], Set[pathlib.Path]]:
     """The cases at the path, and the files there that belong to none."""
     if path.is_dir():
-        files = [file for file in path.rglob("*") if file.suffix not in (".md", OF_TEAMS)]
+        # (Notebooks are run by the tests of the toolbox.)
+        files = [file for file in path.rglob("*") if file.suffix not in (".md", ".ipynb", OF_TEAMS)]
     else:
         files = [file for file in path.parent.glob("*") if path in (file, file.with_suffix(""))]
     files = [file for file in files if file.is_file()]

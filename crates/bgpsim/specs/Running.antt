@@ -7,12 +7,11 @@ use Rattle.clap.specs.declared.error.kind.ErrorKind.{ErrorKind}
 use Rattle.clap.specs.declared.error.kind.ErrorKind.TheVariants.{OutOfMemory, DisplayHelp, DisplayVersion}
 use Rattle.watched.specs.Streams.{Reading, Writing}
 use Rattle.reference_machine.specs.Network.{Network}
-use Rattle.convergence.specs.Kept.{Kept}
 use Rattle.reply_text.specs.declared.ending.RunFault.{RunFault}
 use Rattle.reply_text.specs.declared.ending.RunFault.TheVariants.{NoMemory, Unwritten}
 use Rattle.reply_text.specs.Ending.{success, mistaken, fault_status, fault_text, IsTold}
 use Rattle.sim_text.specs.ScriptRun.{IsScriptRun}
-use Rattle.converge_text.specs.ConvergeRun.{IsConvergeRun}
+use Rattle.converge_text.specs.ConvergeRun.{Kept, IsConvergeRun}
 use Rattle.log_replay.specs.ReplayRun.{IsReplayRun}
 use Rattle.script_files.specs.Sources.{FileBook}
 use Rattle.team_run.specs.TeamRun.{IsTeamRun}

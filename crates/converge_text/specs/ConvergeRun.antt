@@ -1,7 +1,8 @@
 -- What it means to run a script in which messages may be delivered until none waits, and networks kept (own).
 use Rattle.std.specs.Prelude.{ℕ, List, Option}
 use Rattle.watched.specs.Streams.{Reading, Writing}
-use Rattle.convergence.specs.Kept.{Kept, nothing_kept}
+pub use Rattle.convergence.specs.Kept.{Kept}
+use Rattle.convergence.specs.Kept.{nothing_kept}
 use Rattle.sim_text.specs.ScriptRun.{IsRunOf}
 use Rattle.converge_text.specs.Answers.{IsAnswer}
 

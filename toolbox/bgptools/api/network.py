@@ -14,8 +14,9 @@
 """
 from __future__ import annotations
 
+import contextlib
 import os
-from typing import Any, Callable, Dict, Iterable, List, NoReturn, Optional, Tuple, Union
+from typing import Any, Callable, Dict, Iterable, Iterator, List, NoReturn, Optional, Tuple, Union
 
 from ..change.comparison import compare
 from ..change.effect import Outcome
@@ -147,6 +148,31 @@ class Network(Commands):
     def copy(self) -> "Network":
         """Another network, the same as this one stands, with a program of its own that has played the same lines."""
         return self._around(copies.copy_of(self.run))
+
+    @contextlib.contextmanager
+    def checkpoint(self) -> Iterator[None]:
+        """What is done inside is undone at the end: the network and its script are as they were. One may stand in
+        another. The program keeps a snapshot meanwhile, and plays nothing again.
+
+        >>> with Network.from_lines(["router 1.0.0.1 1", "origin 1.0.0.1 10.0.0.0/8"]) as net:
+        ...     with net.checkpoint():
+        ...         net.noorigin("1.0.0.1", "10.0.0.0/8")
+        ...         len(net.routes("1.0.0.1")), net.step
+        ...     len(net.routes("1.0.0.1")), net.step
+        (0, 3)
+        (1, 2)
+        """
+        run, lines = self.run, list(self.run.lines)
+        kept = run.snapshot()
+        try:
+            yield
+        finally:
+            if self._run is run and not run.program.is_torn:
+                run.restore(kept)
+            elif self._run is not None:
+                # What was stopped midway has no snapshot any more.
+                torn, self._run = self._run, copies.played(lines)
+                torn.close()
 
     def at(self, step: int) -> "Network":
         """Another network, as this one was when so many lines were accepted.

@@ -8,7 +8,7 @@ from __future__ import annotations
 
 import heapq
 from dataclasses import dataclass, field
-from typing import Callable, Dict, Iterator, List, Optional, Set, Tuple
+from typing import Any, Callable, Dict, Iterator, List, Optional, Set, Tuple
 
 from ..network.selection import Candidate, always_beats, chosen
 from ..program.language import by_address
@@ -24,6 +24,10 @@ class CutOff(Exception):
 
     def __init__(self, counted: str, most: int) -> None:
         super().__init__("%d %s" % (most, counted))
+        self.counted, self.most = counted, most
+
+    def __reduce__(self) -> Tuple[Any, ...]:
+        return type(self), (self.counted, self.most)
 
 
 @dataclass

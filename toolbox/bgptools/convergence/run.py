@@ -1,7 +1,9 @@
 """A run of the program with what is configured in it: plays scripts, and keeps what was accepted."""
 from __future__ import annotations
 
+import copy
 import hashlib
+from dataclasses import dataclass
 from typing import Iterable, List, Optional
 
 from ..network.answers import Answers
@@ -15,11 +17,22 @@ from ..program.replies import refusal
 from ..program.script import Line
 from .delivery import Deliverer, Convergence
 from .orders import Order, RandomOrder, RouterByRouter
+from .queues import Queues
 
 # So many random orders are tried where another one does not converge.
 RANDOM_ORDERS = 8
 # So many prefixes, and so many routers of each, are told of those that keep changing.
 PREFIXES, ROUTERS = 8, 10
+
+
+@dataclass
+class Snapshot:
+    """What is kept of a run: the program's snapshot of this number, and what the run knew."""
+    number: int
+    network: Network
+    waiting: Queues
+    is_unsure: bool
+    has_tried_all: bool
 
 
 class Run(Answers):
@@ -118,7 +131,7 @@ class Run(Answers):
         if most is None:
             most = 2000 + 4 * len(self.network.directions()) * len(self.network.prefixes)
         made = Run(order, most)
-        made.program.give(lines)
+        made.program.give(lines, self.program.snapshots)
         made.network = self.network
         made.deliverer = Deliverer(made.program, self.network, order, most)
         made.deliverer.waiting.forget_all()
@@ -132,6 +145,18 @@ class Run(Answers):
         done = next(each for each in found if each.is_converged)
         done.first, done.others, done.states = first, found, states
         return done
+
+    def snapshot(self) -> Snapshot:
+        """The network as it stands, to be restored later."""
+        network, waiting = copy.deepcopy((self.network, self.deliverer.waiting))
+        return Snapshot(self.program.snapshot(), network, waiting, self.deliverer.is_unsure, self.has_tried_all)
+
+    def restore(self, kept: Snapshot) -> None:
+        """Takes back a network that was kept, with what had been accepted then. It and all after it are forgotten."""
+        self.program.restore(kept.number)
+        self.network, self.has_tried_all = kept.network, kept.has_tried_all
+        self.deliverer = Deliverer(self.program, kept.network, self.order, self.most)
+        self.deliverer.waiting, self.deliverer.is_unsure = kept.waiting, kept.is_unsure
 
     def check(self, line: Line, reply: List[str]) -> None:
         """Raises Refusal, a mistake, where a line was refused, and is not marked so."""

@@ -5,7 +5,7 @@ and only a script that is itself too long comes to an end."""
 from __future__ import annotations
 
 import sys
-from typing import Callable, Iterable, List, Optional
+from typing import Callable, Iterable, List, Optional, Sequence
 
 from .echo import Echo
 from .language import is_silent
@@ -37,6 +37,8 @@ class CountedProgram(Program):
     def __init__(self) -> None:
         super().__init__()
         self.accepted: List[str] = []
+        # How many lines had been accepted at each snapshot that is kept.
+        self.snapshots: List[int] = []
         self.count = self.count_of_all = 0
         self.is_near = False
 
@@ -58,6 +60,19 @@ class CountedProgram(Program):
         self.count += 1
         self.count_of_all += 1
         return super().request(line)
+
+    def snapshot(self) -> int:
+        """Keeps the network, with what was accepted so far, and says how many are kept then."""
+        number = super().snapshot()
+        self.snapshots.append(len(self.accepted))
+        return number
+
+    def restore(self, number: int) -> None:
+        """Takes back the network of a snapshot, and what had been accepted then."""
+        # A program that is started anew for this line needs no more than what had been accepted then.
+        del self.accepted[self.snapshots[number - 1]:], self.snapshots[number:]
+        super().restore(number)
+        del self.snapshots[number - 1:]
 
     def converge(self, order: str, most: int, told: Callable[[int], None] = lambda count: None) -> Echo:
         """Delivers in an order of the program's until no message waits, or at most so many. Where that is not the end
@@ -83,16 +98,20 @@ class CountedProgram(Program):
         for command, reply in zip(commands, replies):
             self.heard(command, [reply])
 
-    def give(self, lines: List[str]) -> List[str]:
+    def give(self, lines: List[str], snapshots: Sequence[int] = ()) -> List[str]:
         """Gives it the lines that another run accepted, with the comments that were kept among them: the replies to
-        those that have one."""
+        those that have one. `snapshots` are kept after so many of them, where none is kept here."""
         before = list(self.accepted)
         self.is_near = self.is_near or len(before) + len(lines) >= NEAR * MOST_LINES
-        if self.count + len(lines) > MOST_LINES:
+        if self.count + len(lines) + len(snapshots) > MOST_LINES:
             self._renew()
-        replies = self.pour(lines)
+        replies, begin = [], 0  # type: List[str], int
+        for end in (*snapshots, len(lines)):
+            replies += self.pour(lines[begin:end])
+            self.accepted, begin = before + lines[:end], end
+            if len(self.snapshots) < len(snapshots):
+                self.snapshot()
         _check_again(lines, replies)
-        self.accepted = before + list(lines)
         return replies
 
     def pour(self, lines: Iterable[str]) -> List[str]:
@@ -118,11 +137,15 @@ class CountedProgram(Program):
 
     def _renew(self) -> None:
         """Another process, given what was accepted."""
-        if len(self.accepted) >= MOST_LINES:
+        if len(self.accepted) + len(self.snapshots) >= MOST_LINES:
             raise ProgramEnded(FULL.format(MOST_LINES))
-        fresh = Program()
+        fresh, begin = Program(), 0
         try:
-            _check_again(self.accepted, fresh.pour(self.accepted))
+            for end in self.snapshots:
+                _check_again(self.accepted[begin:end], fresh.pour(self.accepted[begin:end]))
+                fresh.snapshot()
+                begin = end
+            _check_again(self.accepted[begin:], fresh.pour(self.accepted[begin:]))
         except BaseException as fault:
             fresh.is_torn = True
             fresh.close()
@@ -131,7 +154,7 @@ class CountedProgram(Program):
             raise
         self.close()
         self.process, self.given, self.told = fresh.process, fresh.given, fresh.told
-        self.count = len(self.accepted)
+        self.count = len(self.accepted) + len(self.snapshots)
         self.count_of_all += self.count
 
 

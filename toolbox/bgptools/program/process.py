@@ -19,7 +19,7 @@ AT_ONCE = 8192
 # So much of a long reply is read at once, and its last line is no longer than this.
 PIECE, LAST_LINE = 1 << 20, 256
 # The first words of what tools ask for, and scripts do not: it is no command.
-REQUESTS = ("converge", "waiting")
+REQUESTS = ("converge", "waiting", "snapshot", "restore")
 # So many seconds a program that answers nothing more has to end.
 PATIENCE = 10
 
@@ -118,6 +118,19 @@ class Program:
             told(count // 2)
         self.is_torn = False
         return Echo.of(b"".join(parts).decode("latin-1"))
+
+    def snapshot(self) -> int:
+        """Keeps the network beside, and says how many are kept then. Mistake where there is no memory for it."""
+        reply = self.request("snapshot")[0]
+        if not reply.startswith("snapshot "):
+            raise Mistake("snapshot: %s: memory was refused" % reply)
+        return int(reply.split(" ")[1])
+
+    def restore(self, number: int) -> None:
+        """Takes back the network that was kept as this number, which is forgotten with all after it."""
+        reply = self.request("restore %d" % number)[0]
+        if reply != "ok":
+            raise Mistake("restore %d: %s" % (number, reply))
 
     def close(self) -> None:
         """Ends the input and waits for the program."""

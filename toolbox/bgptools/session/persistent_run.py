@@ -3,7 +3,7 @@ from __future__ import annotations
 
 import contextlib
 import time
-from typing import Callable, Iterable, Iterator, List, Optional
+from typing import Callable, Iterable, Iterator, List, Optional, Sequence
 
 from ..convergence.delivery import Deliverer
 from ..convergence.orders import Order
@@ -34,13 +34,14 @@ class Absent(CountedProgram):
 
     def __init__(self, accepted: List[str], why: str) -> None:  # pylint: disable=super-init-not-called
         self.accepted, self.why = accepted, why
+        self.snapshots = []
         self.count = self.count_of_all = 0
         self.is_near = self.is_torn = False
 
     def say_all(self, lines: Iterable[str]) -> List[List[str]]:
         raise ProgramEnded(self.why)
 
-    def give(self, lines: List[str]) -> List[str]:
+    def give(self, lines: List[str], snapshots: Sequence[int] = ()) -> List[str]:
         raise ProgramEnded(self.why)
 
     def pour(self, lines: Iterable[str]) -> List[str]:

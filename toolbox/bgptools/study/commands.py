@@ -31,17 +31,22 @@ class Tool(NamedTuple):
 
 
 ORDER = ("order", "by_router", "seed")
+PART = ("peers", "under", "sample", "seed", "by_prefix")
 TOOLS: Mapping[str, Tool] = {
-    "converge": Tool(("script",), (*ORDER, "at_end", "states", "most", "all", "by_prefix", "json"), (), ("out",), ("script",)),
+    "converge": Tool(("script",), (*ORDER, "at_end", "states", "stable", "prefix", "state", "bound", "most", "all", "by_prefix",
+                                   "json"), (), ("out",), ("script",)),
     "what-if": Tool(("base", "change"), (*ORDER, "trace", "each", "all", "json", "most"), (), (),
                     ("base", "change")),
     "explain": Tool(("script",), (*ORDER, "router", "prefix", "to", "converge", "json"), (), (), ("script",)),
     "sweep": Tool(("base",), ("fail_links", "fail_routers", "fail_sessions", "pairs", "sample", "seed", "hijack", "orders",
                               "csv", "order", "most", "by_prefix"), ("changes",), ("out",), ("base",)),
-    "from-as-rel": Tool(("file",), ("core", "origins", "communities"), (), ("out",)),
+    "hijack": Tool(("file", "pairs"), ("kind", "count", "seed", "rov", "peerlock", "played"), (), ("csv", "out")),
+    "timeline": Tool(("script",), ("order", "seed", "prefix", "at", "csv", "json", "most"), (), ("picture",), ("script",)),
+    "from-as-rel": Tool(("file",), ("about", "observers", "check", "leak", "core", "origins", "communities", "all", "strict"),
+                        (), ("out",)),
     "from-graph": Tool(("file",), ("asn", "cost", "speed", "reflectors", "external", "origin", "strict"), (), ("out",)),
-    "from-rib": Tool(("file",), ("router", "asn", "communities"), (), ("out",)),
-    "from-mrt": Tool(("file",), ("router", "asn", "communities", "strict"), (), ("out",))}
+    "from-rib": Tool(("file",), (*PART, "router", "asn", "communities", "strict"), (), ("out",)),
+    "from-mrt": Tool(("files", "table"), (*PART, "begin", "end", "router", "asn", "communities", "strict"), (), ("out",))}
 
 
 @dataclass(frozen=True)
@@ -83,7 +88,10 @@ class Command:
         return order_of(self.chosen) if hasattr(self.chosen, "by_router") else named(self.chosen.order or "fair")
 
     def _of(self, names: Tuple[str, ...]) -> List[str]:
-        return [value for value in (getattr(self.chosen, name) for name in names) if value is not None]
+        found: List[str] = []
+        for value in (getattr(self.chosen, name) for name in names):
+            found += value if isinstance(value, list) else [] if value is None else [value]
+        return found
 
 
 def command_of(words: Any, where: str, parser_of: ParserOf) -> Command:

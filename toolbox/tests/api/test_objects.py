@@ -74,7 +74,7 @@ GIVEN = {"text": "a text", "file": "a file", "line": 7, "number": 5, "status": 4
          "reply": "refused 2 no-router", "explanation": "there is no router", "error": OSError(5, "a text"),
          "done": Convergence(named("fair", None), [("1.0.0.1", "2.0.0.1")], ["took 10.0.0.0/8 update"], False,
                           {"10.0.0.0/8": ["1.0.0.1"]}, 8),
-         "found": Recovered(3, 5, 1, 2, [])}
+         "found": Recovered(3, 5, 1, 2, []), "counted": "steps", "most": 20000}
 
 
 def exceptions():

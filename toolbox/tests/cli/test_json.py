@@ -230,7 +230,7 @@ class Json(Case):
         self.assertEqual([each["route"]["path"] for state in whole["states"] for each in state["routes"]], ["2,3", "3", "3", "1,3"])
         self.told("converge", LESSONS / "bad-gadget.bgp", "--stable", status=1)
         text = tool("converge", DISAGREE, "--states", 6, "--at-end").stdout
-        self.assertIn("%d stable states in 6 random orders" % len(found["states"]), text)
+        self.assertIn("%d stable state" % len(found["states"]), text)
         base = LESSONS / "three-ases.bgp"
         routes = self.told("converge", base, "--by-prefix", 1, "--jobs", 1)["routes"]
         lines = tool("converge", base, "--by-prefix", 1, "--jobs", 1).stdout.split("\n")

@@ -135,8 +135,8 @@ feed 6.0.0.1 5.0.0.3 update 10.0.0.0/8 6,70 igp 10
         and then the reflector has no other; else the reflector takes the nearer one, and tells it nothing."""
         for where, states in (([], 1), (["5.0.0.2"], 2), (["5.0.0.1", "5.0.0.2", "5.0.0.3"], 1)):
             script = self.file("net.bgp", self.REFLECTED + "".join("med %s always\n" % router for router in where))
-            told = tool("converge", "--at-end", "--states", "8", script).stdout
-            self.assertTrue(told.startswith("%d stable state%s in 8 " % (states, "s" if states > 1 else "")), told)
+            told = tool("converge", "--at-end", "--states", "16", script).stdout
+            self.assertTrue(told.startswith("%d stable state%s in 16 " % (states, "s" if states > 1 else "")), told)
 
     def test_two_lines_end_the_oscillation(self):
         """And so does the setting of either reflector alone, since the route of MED 0 wins there."""

@@ -25,7 +25,7 @@ CALLS = (
     ("explain", "examples/tour.bgp", "5.0.0.1", "10.6.0.0/16"), ("explain", "examples/tour.bgp", "3.0.0.4", "30.0.0.0/8"),
     ("what-if", DRAINED, "toolbox/lessons/drained-link.change"),
     ("what-if", "examples/lessons/valley-free.bgp", "toolbox/lessons/valley.change"),
-    ("converge", "--states", "6", "--at-end", "toolbox/lessons/disagree.bgp"),
+    ("converge", "--states", "10", "--at-end", "toolbox/lessons/disagree.bgp"),
     ("sweep", DRAINED, "--fail-links", "--jobs", "1"), ("sweep", "toolbox/lessons/disagree.bgp", "--orders", "6"))
 # Lines that would steer a terminal, and bytes that are no text.
 STEERING = b"# \xc3\xa9t\xc3\xa9 \x1b]0;title\x07 \x9b2J \xff \xe2\x80\xae\rx\n\x1b[2Jquiet\tx\n"

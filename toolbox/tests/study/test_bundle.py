@@ -95,7 +95,7 @@ class Archive(Study):
         found = self.content(self.bundle(title="Three ASes", authors=["A. Student"]))
         manifest = json.loads(found["three/manifest.json"])
         self.assertEqual(manifest["commands"], [
-            {"tool": "converge", "words": COMMANDS[0][1:], "order": "in the drawn order 3", "seed": "3", "status": 0},
+            {"tool": "converge", "words": COMMANDS[0][1:], "order": "in the random order 3", "seed": "3", "status": 0},
             {"tool": "what-if", "words": COMMANDS[1][1:], "order": "in the fair order", "seed": None, "status": 1},
             {"tool": "sweep", "words": COMMANDS[2][1:], "order": "in the fair order", "seed": None, "status": 0},
             {"tool": "explain", "words": COMMANDS[3][1:], "order": "in the fair order", "seed": None, "status": 0}])
