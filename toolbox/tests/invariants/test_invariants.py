@@ -72,6 +72,10 @@ class InvariantsOfAFile(Case):
                 is_leak = one != "customer" and other != "customer"
                 self.assertEqual([each[:2] for each in leaks], [("leak", "5.0.0.2")] if is_leak else [], (one, other))
 
+    def test_a_path_that_holds_the_receiver_is_no_leak(self):
+        path = self.file("two.bgp", "\n".join(self.TOP_LINES + ["feed 7.0.0.1 5.0.0.1 update 10.0.0.0/8 7,8 igp -"]) + "\n")
+        self.assertEqual(self.found("peer AS7\npeer AS8\nno route of AS7 to AS8", path, 0), [])
+
     def test_transit_is_a_note_where_no_role_is_known(self):
         for text, count in (("", 1), ("customer AS7", 0), ("peer AS7", 1), ("customer AS8", 0)):
             ran = inside("check", NETWORK, "--json", "--ignore", "single-session", "--strict", "--invariants", self.file("rules", text))
