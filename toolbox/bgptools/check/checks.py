@@ -63,7 +63,8 @@ def check(asked: Asked) -> Checked:
         invariants = invariants_in(asked.invariants, network) if asked.invariants else Invariants()
         found = Checked(asked.script, network.names, routers=len(network.routers()), prefixes=len(network.prefixes))
         if not done.is_converged:
-            found.found = [orders.oscillation(done, 1 + len(done.others), 1 + len(done.others), asked.script, network.names)]
+            tried = 1 + len(done.others)
+            found.found = [orders.oscillation(done, tried, tried, asked.script, network.names)]
             return found
         state = State(run)
         ways = Ways(state, asked.script)
@@ -104,6 +105,8 @@ def _isolated(invariants: Invariants, network: Network) -> Set[Cell]:
     found: Set[Cell] = set()
     for rule in (each for each in invariants.listed if each.kind == "isolation"):
         outer = prefix(rule.router(0))
-        inside = [to for to, value in ((to, prefix(to)) for to in network.prefixes) if outer and value and contains(outer, value)]
-        found |= {(router, to) for router in network.routers() if network.nodes[router].asn == rule.asn(1) for to in inside}
+        values = [(to, prefix(to)) for to in network.prefixes]
+        inside = [to for to, value in values if outer and value and contains(outer, value)]
+        routers = [each for each in network.routers() if network.nodes[each].asn == rule.asn(1)]
+        found |= {(router, to) for router in routers for to in inside}
     return found

@@ -15,8 +15,8 @@ from .finding import Finding
 def parts_of(state: State) -> Dict[int, List[FrozenSet[str]]]:
     """The routers of each AS that reach one another over its links that are up: the parts, the largest first."""
     network = state.network
-    near = neighbours((one, other) for one, other in map(ends, (both for both, link in network.links.items() if link.is_up))
-                      if not network.is_external(one, other))
+    links = [ends(both) for both, link in network.links.items() if link.is_up]
+    near = neighbours((one, other) for one, other in links if not network.is_external(one, other))
     found: Dict[int, List[FrozenSet[str]]] = {}
     known: Dict[str, FrozenSet[str]] = {}
     for router in network.routers():
