@@ -7,7 +7,7 @@ from typing import Dict, Iterable, List, Optional, Tuple
 
 from ..change import comparison
 from ..change.effect import Outcome
-from ..change.report import text_of
+from ..change.report import standing_text, text_of
 from ..convergence.delivery import Convergence
 from ..convergence.run import converged_otherwise, not_converged
 from ..network.configuration import Direction
@@ -130,7 +130,8 @@ def _notes(outcome: Outcome) -> List[str]:
     """What is told of the orders of deliveries: which was needed, or that none converges."""
     names, endless = outcome.network.names, outcome.not_converged
     told = [converged_otherwise(done, names) for done in [outcome.base] + outcome.done if done.first]
-    return told + ([not_converged(endless, names)] if endless else [])
+    told += standing_text(outcome.difference)
+    return list(outcome.broken) + told + ([not_converged(endless, names)] if endless else [])
 
 
 def deliveries_of(done: Convergence) -> Tuple[Delivery, ...]:

@@ -8,9 +8,10 @@ from typing import Dict, FrozenSet, Iterable, List, Optional, Set, Tuple
 from ..convergence.run import Run
 from ..network.answers import Answers
 from ..network.configuration import Direction, Network
+from ..network.probes import probes_of
 from ..program.language import address, contains, prefix, show_address, words_of
 from ..program.language_table import FORMS
-from .comparison import Difference, Packet, probes_of
+from .comparison import Difference, Packet
 
 EDITS_LINKS = frozenset(form.name for form in FORMS if form.scope == "ases")
 
@@ -65,6 +66,12 @@ class Baseline(Answers):
 
         for words in (words_of(line) for line in self._lines if line.startswith("feed")):
             self.feeds[(words[1], words[2]), words[4]] = " ".join(words)
+
+    @property
+    def loops(self) -> int:
+        """How many packets that were followed go round."""
+        return sum(question.startswith("trace ") and reply[-2].startswith("loop ")
+                   for question, reply in self.replies.items())
 
     def addresses(self, prefixes: Set[str]) -> List[str]:
         """The addresses to which packets are followed where these prefixes are there."""

@@ -2,12 +2,13 @@
 from __future__ import annotations
 
 from dataclasses import dataclass, field
-from typing import Callable, Dict, Iterable, List, Optional, Set, Tuple
+from typing import Callable, Dict, List, Optional, Set, Tuple
 
 from ..network.answers import Answers
 from ..network.configuration import Direction, Network, Pair, pair
+from ..network.probes import probes_of
 from ..program import communities
-from ..program.language import by_address, by_prefix, contains, prefix, show_address, words_of
+from ..program.language import by_address, by_prefix, show_address, words_of
 from ..program.language_table import BEST
 from ..program.output import Progress
 from ..program.reasons import named
@@ -42,7 +43,7 @@ class Way:
 
 @dataclass
 class Difference:
-    """What differs."""
+    """What differs. `standing` are the packets that go round before and after."""
     routers: Dict[str, List[Change]] = field(default_factory=dict)
     came: List[str] = field(default_factory=list)
     gone: List[str] = field(default_factory=list)
@@ -51,6 +52,7 @@ class Difference:
     told: Dict[Direction, List[Change]] = field(default_factory=dict)
     ways: List[Way] = field(default_factory=list)
     asked: List[Way] = field(default_factory=list)
+    standing: List[Way] = field(default_factory=list)
 
     @property
     def loops(self) -> List[Way]:
@@ -80,13 +82,22 @@ def compare(before: Answers, after: Answers, asked: List[Packet],
         _tell_why(before, after, found)
     _compare_told(before, after, found)
     packets = chosen(found) if chosen else packets_of(before.network, after.network)
-    found.ways = _ways(before, after, packets, is_all=False)
-    found.asked = _ways(before, after, asked, is_all=True)
+    followed = _ways(before, after, packets, lambda old, new: old != new or old[-2].startswith("loop "))
+    found.ways = [way for way in followed if way.before != way.after]
+    found.standing = [way for way in followed if way.before.end == way.after.end == "loop"]
+    found.asked = _ways(before, after, asked, lambda *_: True)
     return found
 
 
 def _changes(old: Dict[str, Route], new: Dict[str, Route]) -> List[Change]:
     return [Change(p, old.get(p), new.get(p)) for p in sorted({*old, *new}, key=by_prefix) if old.get(p) != new.get(p)]
+
+
+def is_gained_outside(network: Network, router: str, change: Change) -> bool:
+    """Whether a router gained a route, its own or one from another AS: a leak or a hijack shows there, and what it does
+    inside an AS does not."""
+    source = change.after.source if change.before is None and change.after else None
+    return source == "self" or source in network.nodes and network.is_external(router, str(source))
 
 
 def packets_of(before: Network, after: Network) -> List[Packet]:
@@ -196,27 +207,16 @@ def _is_told(run: Answers, router: str, peer: str) -> bool:
     return not run.network.is_router(peer) and peer in run.network.peers.get(router, ())
 
 
-def _ways(before: Answers, after: Answers, asked: List[Packet], is_all: bool) -> List[Way]:
-    """How these packets go: all of them, or those whose way changed."""
+def _ways(before: Answers, after: Answers, asked: List[Packet],
+          is_wanted: Callable[[List[str], List[str]], bool]) -> List[Way]:
+    """How those of these packets go that are wanted, by the replies to `trace` before and after."""
     progress, found = Progress(), []
     for start in range(0, len(asked), 500):
         part = asked[start:start + 500]
         lines = ["trace %s %s" % each for each in part]
         for (router, to), old, new in zip(part, before.ask(lines), after.ask(lines)):
-            if is_all or old != new:
+            if is_wanted(old, new):
                 found.append(Way(router, to, trace(old), trace(new)))
         progress.tell("%d of %d packets followed .." % (start, len(asked)))
     progress.done()
     return found
-
-
-def probes_of(prefixes: Iterable[str]) -> List[int]:
-    """An address of each prefix that is in no longer one, where there is such an address among the first, the last and the middle one."""
-    known = sorted(prefixes, key=by_prefix)
-    found = []
-    for one in filter(None, map(prefix, known)):
-        size = 2 ** (32 - one[1])
-        inner = [other for other in map(prefix, known) if other and other != one and contains(one, other)]
-        tried = [one[0] + offset for offset in (min(1, size - 1), max(size - 2, 0), size // 2, size // 4, 3 * size // 4)]
-        found.append(next((each for each in tried if not any(contains(other, (each, 32)) for other in inner)), tried[0]))
-    return sorted(set(found))

@@ -1,7 +1,7 @@
 """What came of a change: the difference that it makes, and the messages on the way."""
 from __future__ import annotations
 
-from typing import List, Optional
+from typing import List, Optional, Sequence
 
 from ..convergence.delivery import Convergence
 from .comparison import Difference
@@ -9,9 +9,12 @@ from .transients import Watch
 
 
 class Outcome:
-    """What was compared, with the deliveries that emptied the queues of the base, and those of the change."""
+    """What was compared, with the deliveries that emptied the queues of the base, and those of the change. `broken` are
+    the invariants that the network with the change breaks, a sentence each; those that the base kept stand first."""
 
-    def __init__(self, difference: Difference, watch: Watch, base: Convergence, done: List[Convergence]) -> None:
+    def __init__(self, difference: Difference, watch: Watch, base: Convergence, done: List[Convergence],
+                 broken: Sequence[str] = ()) -> None:
+        self.broken = broken
         self.difference, self.watch, self.base, self.done = difference, watch, base, done
         self.network = watch.run.network
         self.passing = watch.passing()
@@ -26,4 +29,4 @@ class Outcome:
 
     @property
     def is_changed(self) -> bool:
-        return bool(self.difference.is_any or self.passing or self.not_converged)
+        return bool(self.difference.is_any or self.passing or self.not_converged or self.broken)

@@ -5,10 +5,11 @@ import textwrap
 from typing import Dict, Hashable, Iterable, List, Tuple, TypeVar
 
 from ..convergence.run import converged_otherwise, not_converged
+from ..network.configuration import Direction, Network
 from ..program import communities
 from ..program.names import Names
 from ..program.replies import route_text, trace_text
-from .comparison import Change, Difference, Way
+from .comparison import Change, Difference, Way, is_gained_outside
 from .effect import Outcome
 from .transients import Sent, advice, message_text
 
@@ -102,16 +103,30 @@ def _changes(changes: List[Change], names: Names, is_whole: bool, moved: str = "
     return first_of([_change(change, prefixes, names, moved) for change, prefixes in groups], [len(prefixes) for _, prefixes in groups], is_whole)
 
 
-def _routers(difference: Difference, names: Names, is_whole: bool) -> List[str]:
+def _routers(difference: Difference, network: Network, is_whole: bool) -> List[str]:
+    """What changed at routers; first at those that gained a route which is not from inside their AS, as of a leak."""
+    names = network.names
+    in_order = sorted(difference.routers.items(), key=lambda item: not any(
+        is_gained_outside(network, item[0], change) for change in item[1]))
     parts = [["Router " + names.shown(router) + (" (new)" if router in difference.came else "")] + _changes(changes, names, is_whole)
-             for router, changes in difference.routers.items()]
+             for router, changes in in_order]
     return first_of(parts, [1] * len(parts), is_whole, "and %d more routers")
 
 
-def _told(difference: Difference, names: Names, is_whole: bool) -> List[str]:
+def _told(title: str, told: Dict[Direction, List[Change]], names: Names, is_whole: bool) -> List[str]:
     parts = [["  %s to %s" % (names.shown(router), names.shown(peer))] + ["  " + line for line in _changes(changes, names, is_whole, "changed")]
-             for (router, peer), changes in difference.told.items()]
-    return (["Told to external neighbours"] if parts else []) + first_of(parts, [1] * len(parts), is_whole)
+             for (router, peer), changes in told.items()]
+    return ([title] if parts else []) + first_of(parts, [1] * len(parts), is_whole)
+
+
+def _told_parts(difference: Difference) -> Tuple[Dict[Direction, List[Change]], Dict[Direction, List[Change]]]:
+    """What external neighbours are told that they were not told before, as of a leak; and what else is otherwise."""
+    parts = []
+    for is_gained in (True, False):
+        chosen = {way: [each for each in changes if (each.kind == "gained") == is_gained]
+                  for way, changes in difference.told.items()}
+        parts.append({way: changes for way, changes in chosen.items() if changes})
+    return parts[0], parts[1]
 
 
 # All else
@@ -128,6 +143,13 @@ def _ways(title: str, ways: List[Way], names: Names, is_all: bool, is_whole: boo
     groups = _grouped(((key, way, way.address) for key, way in zip(same, ways)), is_whole)
     parts = [_way(way, addresses, names) for way, addresses in groups]
     return ([title] if ways else []) + first_of(parts, [len(addresses) for _, addresses in groups], is_all)
+
+
+def standing_text(difference: Difference) -> List[str]:
+    """That packets go round in the base already, in a line; nothing where none does."""
+    packets = [(way.router, way.address) for way in difference.standing]
+    return ["Loops before the change and after it: %s, as from %s to %s; `check` of the base explains them" % (
+        count(len(packets), "packet"), *packets[0])] if packets else []
 
 
 def _sessions(difference: Difference, names: Names, is_whole: bool) -> List[str]:
@@ -173,19 +195,27 @@ def _orders(outcome: Outcome, names: Names) -> List[str]:
     return lines + ["With the change: %s." % converged_otherwise(done, names) for done in outcome.done if done.first]
 
 
-def difference_lines(difference: Difference, names: Names, is_all: bool) -> List[str]:
-    """What differs. Where it is long, a summary comes first, equal changes are told as one, and of much of a kind the
+def difference_lines(difference: Difference, network: Network, is_all: bool) -> List[str]:
+    """What differs from what came before, in this network. Where it is long, a summary comes first, equal changes are told as one, and of much of a kind the
     first; not where all is asked for."""
-    is_whole = is_all or not is_long(difference)
+    names, is_whole = network.names, is_all or not is_long(difference)
     lines = summary(difference) if is_long(difference) else []
     lines += ["Router %s (gone)" % names.shown(router) for router in difference.gone]
-    lines += _routers(difference, names, is_whole) + _sessions(difference, names, is_whole) + _told(difference, names, is_whole)
+    gained, told = _told_parts(difference)
+    lines += _told("Told to external neighbours, and not before", gained, names, is_whole)
+    lines += _routers(difference, network, is_whole) + _sessions(difference, names, is_whole)
+    lines += _told("Told to external neighbours", told, names, is_whole)
     lines += _ways("Forwarding that was asked for", difference.asked, names, True, True)
     special = {(way.router, way.address) for way in difference.loops + difference.black_holes + difference.asked}
     for title, ways in (("New loops", difference.loops), ("New black holes", difference.black_holes),
                         ("Forwarding that changed", [way for way in difference.ways if (way.router, way.address) not in special])):
         lines += _ways(title, ways, names, is_all, is_whole)
-    return lines
+    return lines + standing_text(difference)
+
+
+def broken_lines(outcome: Outcome) -> List[str]:
+    """The invariants that do not hold."""
+    return ["Broken invariants", *("  " + each for each in outcome.broken)] if outcome.broken else []
 
 
 def convergence_lines(outcome: Outcome, is_all: bool) -> List[str]:
@@ -199,7 +229,7 @@ def convergence_lines(outcome: Outcome, is_all: bool) -> List[str]:
 def text_of(outcome: Outcome, is_all: bool) -> str:
     """The outcome for a reader."""
     difference, names = outcome.difference, outcome.network.names
-    lines = difference_lines(difference, names, is_all)
+    lines = broken_lines(outcome) + difference_lines(difference, outcome.network, is_all)
     lines += _between(outcome, names, is_all, is_all or not is_long(difference))
     lines += [] if outcome.is_changed else ["Nothing changed."]
     lines += convergence_lines(outcome, is_all)

@@ -125,7 +125,8 @@ def main(words: Optional[List[str]] = None) -> int:
             play_here(asked.jobs, asked.quiet, known, chosen.jobs or processors())
     finally:
         known.close()
-    table = Table(chosen.base, asked.trials, rows_of(asked.jobs, known), asked.network.names, program)
+    table = Table(chosen.base, asked.trials, rows_of(asked.jobs, known), asked.network.names, program,
+                  asked.quiet.loops if asked.quiet else 0)
     for trial, found in (row for row in table.rows if row[1].mistake):
         print("%s: %s" % (trial.title, found.mistake), file=sys.stderr)
     _tell(table, chosen)

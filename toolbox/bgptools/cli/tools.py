@@ -16,7 +16,7 @@ from . import interpreter
 # Each is the name of a launcher in toolbox/, a copy of `launch`, and with `_` for `-` of the module beside this one with
 # its `parser` and `main`. The list of tools, completion, manual pages, and what pip and the package install are made of
 # these names.
-TOOLS = ("play", "share", "join", "lab", "converge", "what-if", "sweep", "hijack", "explain", "timeline", "draw",
+TOOLS = ("play", "share", "join", "lab", "converge", "what-if", "sweep", "hijack", "explain", "timeline", "check", "draw",
          "bundle", "compare-live", "from-frr", "from-bird", "from-cbgp", "from-graph", "from-as-rel", "from-rib",
          "from-mrt")
 # What stands before a tool's name where it is installed.

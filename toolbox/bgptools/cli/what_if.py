@@ -12,7 +12,7 @@ from ..change import what_if
 from ..change.comparison import compare
 from ..change.effect import Outcome
 from ..change.report import text_of
-from ..change.what_if import changed, converged_base
+from ..change.what_if import broken, changed, converged_base
 from ..convergence.run import Run
 from ..migration import comparison, document, report
 from ..migration.kind import KINDS
@@ -99,7 +99,8 @@ def _change(chosen: argparse.Namespace) -> int:
         asked = _asked(base, chosen.trace)
         after, watch, done = changed(base, read(chosen.change), chosen)
         with after:
-            outcome = Outcome(compare(base, after, asked), watch, converged, done)
+            found = broken(chosen.invariants, base, after)
+            outcome = Outcome(compare(base, after, asked), watch, converged, done, found)
     if chosen.json:
         sys.stdout.write(_json(outcome, chosen))
     else:

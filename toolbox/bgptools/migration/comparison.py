@@ -8,6 +8,7 @@ from typing import Dict, List, Optional, Tuple
 from ..change.comparison import Packet, compare
 from ..change.effect import Outcome
 from ..change.transients import Watch
+from ..change.what_if import broken
 from ..convergence.delivery import Convergence
 from ..convergence.orders import order_of
 from ..convergence.run import Run, not_converged
@@ -59,7 +60,8 @@ def compared(before: Side, after: Side, feeds: List[Line], chosen: argparse.Name
             new.network.names.of.setdefault(where, name)
         fed, will = feeds_of(old.lines), feeds_of(new.lines)
         parts = differences(parts_of(old.network, fed), parts_of(new.network, will), before, after)
-        outcome = Outcome(compare(old, new, _packets(old, new, asked)), Watch(new), converged, _told(done))
+        outcome = Outcome(compare(old, new, _packets(old, new, asked)), Watch(new), converged, _told(done),
+                          broken(chosen.invariants, old, new))
         found = Comparison(before, after, parts, left_out(before, after), outcome, unfed=unfed,
                            silent=_silent([(old, fed), (new, will)]))
         if chosen.steps and done.is_converged:

@@ -4,7 +4,7 @@ from __future__ import annotations
 import sys
 from typing import Dict, List, Tuple
 
-from ..change.report import SHOWN, convergence_lines, count, difference_lines, listed
+from ..change.report import SHOWN, broken_lines, convergence_lines, count, difference_lines, listed
 from ..program.names import Names
 from .comparison import Comparison
 from .difference import PartChange
@@ -44,7 +44,8 @@ def print_left_out(found: Comparison, lists_all: bool) -> None:
 def text_of(found: Comparison, is_all: bool) -> str:
     """The comparison for a reader. Of a long list the first ones are shown, but where all is asked for."""
     outcome, names = found.outcome, found.outcome.network.names
-    lines = _configuration(found, names, is_all) + difference_lines(outcome.difference, names, is_all)
+    lines = broken_lines(outcome) + _configuration(found, names, is_all)
+    lines += difference_lines(outcome.difference, outcome.network, is_all)
     lines += [] if outcome.is_changed else ["No route, session or packet changes."]
     lines += convergence_lines(outcome, is_all) + notes(found)
     lines += _played(found.played, names, is_all) if found.played is not None else []

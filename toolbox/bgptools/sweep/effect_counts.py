@@ -5,7 +5,7 @@ import hashlib
 from dataclasses import asdict, dataclass, field
 from typing import Any, Dict, FrozenSet, List, Set, Tuple
 
-from ..change.comparison import Difference
+from ..change.comparison import Difference, is_gained_outside
 from ..network.configuration import Network
 from ..program.language import by_address, by_prefix, contains
 from .families import HIJACK, SINGLE, Trial
@@ -20,14 +20,15 @@ KINDS = {"moved": MOVED, "lost": LOST, "gained": GAINED}
 class Figures:
     """What a change does. `routes` has the numbers of each router with any; `down` counts sessions, `told` external
     neighbours that are told otherwise; `packets` go another way, `black_holes` and `loops` among them; `captured` counts
-    the ASes whose packets a hijack leads to the hijacker. `is_single` says
-    that one failure takes from others what was not the failed router's own. `state` tells the routes of all routers
-    apart from others, of a random order. `text` is what what-if tells; `mistake` why it tells nothing. `is_lost` says
+    the ASes whose packets a hijack leads to the hijacker; `gained_outside` counts gained routes that come not
+    from inside the AS. `is_single` says that one failure takes from others what was not the failed router's own.
+    `state` tells the routes of all routers apart from others, of a random order. `text` is what what-if tells; `mistake` why it tells nothing. `is_lost` says
     that what tried it died each time: it may be tried again."""
     moved: int = 0
     captured: int = 0
     lost: int = 0
     gained: int = 0
+    gained_outside: int = 0
     black_holes: int = 0
     loops: int = 0
     packets: int = 0
@@ -54,17 +55,19 @@ class Figures:
     def rank(self) -> Tuple[int, ...]:
         """Orders changes, the worst first: single points of failure, then what does not converge, then by how much."""
         return (not self.mistake, not self.is_single, self.is_converged, -self.black_holes - self.loops, -self.lost,
-                -self.captured, -self.moved, -len(self.told), -self.gained, -self.packets, -self.messages)
+                -self.captured, -self.gained_outside, -self.moved, -len(self.told), -self.gained, -self.packets, -self.messages)
 
 
-def figures_of(difference: Difference, messages: int, is_converged: bool) -> Figures:
-    """The numbers of a difference."""
+def figures_of(difference: Difference, network: Network, messages: int, is_converged: bool) -> Figures:
+    """The numbers of a difference, in the network with the change."""
     found = Figures(messages=messages, is_converged=is_converged, down=len(difference.down), packets=len(difference.ways),
                     black_holes=len(difference.black_holes), loops=len(difference.loops))
     found.told = sorted("%s %s" % way for way in difference.told)
     for router, changes in difference.routers.items():
         for change in changes:
             found.routes.setdefault(router, [0, 0, 0, 0])[KINDS[change.kind]] += 1
+            found.gained_outside += is_gained_outside(network, router, change)
+    found.gained_outside += sum(change.kind == "gained" for changes in difference.told.values() for change in changes)
     for way in difference.black_holes + difference.loops:
         found.routes.setdefault(way.router, [0, 0, 0, 0])[DROPPED] += 1
     found.moved, found.lost, found.gained = (sum(cell[kind] for cell in found.routes.values())
@@ -108,7 +111,7 @@ def together(parts: List[Figures]) -> Figures:
         return parts[0]
     found = Figures(is_converged=all(part.is_converged for part in parts), is_single=any(part.is_single for part in parts),
                     down=max(part.down for part in parts))
-    for name in ("moved", "captured", "lost", "gained", "black_holes", "loops", "packets", "messages"):
+    for name in ("moved", "captured", "lost", "gained", "gained_outside", "black_holes", "loops", "packets", "messages"):
         setattr(found, name, sum(getattr(part, name) for part in parts))
     found.told = sorted({way for part in parts for way in part.told})
     for router, cell in (item for part in parts for item in part.routes.items()):

@@ -79,7 +79,7 @@ class Attempt:
         """What the change does."""
         after = After(self.run, self.quiet, self.touched)
         difference = compare(self.quiet, after, [], after.packets, has_reasons=bool(self.watch))
-        found = figures_of(difference, len(self.done.taken), self.done.is_converged)
+        found = figures_of(difference, self.run.network, len(self.done.taken), self.done.is_converged)
         found.captured = captured_by(self.trial, self.run.network, difference)
         fed = {to for _, to in self.quiet.feeds}
         found.is_single = is_single_point(self.trial, self.quiet.network, fed, difference)
@@ -243,7 +243,7 @@ class Player:
         run = self.begin.again(RandomOrder(trial.seed))
         watch, done = Watch(run), run.converge()
         difference = compare(self.quiet, run, [], has_reasons=self.job.has_texts)
-        found = figures_of(difference, len(done.taken), done.is_converged)
+        found = figures_of(difference, run.network, len(done.taken), done.is_converged)
         found.state = run.state() if done.is_converged else ""
         if self.job.has_texts:
             found.text = text_of(Outcome(difference, watch, self.job.converged or done, [done]), False)

@@ -20,11 +20,12 @@ TITLES = ("lost", "black holes", "loops", "moved", "captured", "gained", "told",
 
 class Table:
     """The rows of a sweep of a base, the worst first; `places` has the number of each change, from 1. Stable states are
-    numbered, those that most orders end in first. `program` is which program played it."""
+    numbered, those that most orders end in first. `program` is which program played it; `standing` packets go round in
+    the base already."""
 
     def __init__(self, base: str, trials: List[Trial], figures: List[Figures], names: Names,
-                 program: Provenance) -> None:
-        self.base, self.names, self.program = base, names, program
+                 program: Provenance, standing: int = 0) -> None:
+        self.base, self.names, self.program, self.standing = base, names, program, standing
         rows: List[Row] = list(zip(trials, figures))
         order = sorted(range(len(rows)), key=lambda at: (figures[at].rank(), at))
         self.rows, self.places = [rows[at] for at in order], [at + 1 for at in order]
@@ -51,6 +52,9 @@ class Table:
             count(len(self.rows), "change"), self.base,
             count(singles, "single point of failure", "single points of failure"),
             losing, "loses" if losing == 1 else "lose", endless, "does" if endless == 1 else "do")]
+        if self.standing:
+            lines.append("%s in loops of the base itself, which `check %s` explains" % (
+                count(self.standing, "packet goes round", "packets go round"), self.base))
         orders = sum(trial.kind == ORDER for trial, _ in self.rows)
         if orders:
             lines.append("%s in %s" % (count(len(self.known), "stable state"), count(orders, "random order")))

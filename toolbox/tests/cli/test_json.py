@@ -62,8 +62,18 @@ class Json(Case):
         return found
 
     def test_each_schema_is_one_of_a_tool_or_of_values(self):
-        tools = ("compare-live", "explain", "play", "converge", "hijack", "sweep", "timeline", "what-if")
+        tools = ("check", "compare-live", "explain", "play", "converge", "hijack", "sweep", "timeline", "what-if")
         self.assertEqual(set(self.judges), {"language.json", "request.json", "values.json"} | {name + ".json" for name in tools})
+
+    def test_a_check(self):
+        found = self.told("check", LESSONS / "customers.bgp")
+        self.assertEqual([(each["kind"], each["note"], each["router"]) for each in found["findings"]],
+                         [("single-session", True, "5.0.0.1"), ("transit", True, "5.0.0.2")])
+        self.told("check", DISAGREE, status=1)
+        rules = self.folder / "rules"
+        rules.write_text("east reaches 10.0.0.0/8\n")
+        found = self.told("check", LESSONS / "customers.bgp", "--invariants", rules, status=1)
+        self.assertEqual(found["findings"][0]["way"], {"hops": [], "end": "noroute", "place": "5.0.0.2"})
 
     def test_a_schema_refuses_what_it_does_not_name(self):
         found = self.told("explain", "examples/hot-potato.bgp", "5.0.0.1", "203.0.113.0/24")
