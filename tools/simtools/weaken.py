@@ -287,6 +287,11 @@ def outside(source: reading.Source) -> str:
     return text
 
 
+def are_direct(functions: List[Function], name: trusted_base.Name) -> bool:
+    """Whether one of the functions is proved from the definition itself, and not from what it calls."""
+    return any(name not in one.handed_on for one in functions)
+
+
 @dataclass
 class Batch:
     """Places of several definitions that are dropped at once: the definitions, and of each the functions that reach it
@@ -296,12 +301,15 @@ class Batch:
     own: List[List[Function]] = field(default_factory=list)
 
     def with_one(self, file: str, place: Place, name: trusted_base.Name, functions: List[Function]) -> Optional[Batch]:
-        """The batch with one place more, if of each some function is left that tells of it alone."""
+        """The batch with one place more, if of each some function is left that tells of it alone, and one that is proved
+        from the definition itself where there is such a one."""
         if name in self.names or len(self.names) == PLACES_A_CHECK:
             return None
         names, every = [*self.names, name], [*self.own, functions]
         own = [[one for one in some if len(one.touched & set(names)) == 1] for some in every]
-        return Batch([*self.places, (file, place)], names, own) if all(own) else None
+        if all(left and are_direct(left, one) >= are_direct(some, one) for left, some, one in zip(own, every, names)):
+            return Batch([*self.places, (file, place)], names, own)
+        return None
 
     def alone(self, at: int) -> Batch:
         """One of the places."""

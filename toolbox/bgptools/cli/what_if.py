@@ -1,5 +1,4 @@
-"""What a change does, before a real network is touched: a base converged, and the same with the change, compared router
-by router; or two networks."""
+"""What a change does, before a real network is touched; or how two networks differ, router by router."""
 from __future__ import annotations
 
 import argparse

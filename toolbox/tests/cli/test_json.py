@@ -171,7 +171,7 @@ class Json(Case):
         self.assertEqual(found["steps"]["other_routes_at"], [])
 
     def test_real_routers(self):
-        found = self.told("compare-live", DATA / "live" / "bird" / "answers", "toolbox/lessons/bird", status=1)
+        found = self.told("compare-live", "toolbox/lessons/live-bird/answers", "toolbox/lessons/bird", status=1)
         self.assertEqual(found["agreed"], 1)
         self.assertEqual([[one["name"] for one in each["attributes"]] for each in found["differences"]], [
             ["path", "MED", "preference", "communities"]])

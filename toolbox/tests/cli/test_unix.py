@@ -19,7 +19,7 @@ from bgptools.program.process import Program
 SCRIPT = "examples/hijack.bgp"
 CALLS = {
     "play": [SCRIPT], "converge": [SCRIPT], "draw": [SCRIPT], "explain": [SCRIPT, "2.0.0.1", "198.51.100.0/24"],
-    "compare-live": ["toolbox/tests/data/live/bird/answers", "toolbox/tests/data/live/bird/net"],
+    "compare-live": ["toolbox/lessons/live-bird/answers", "toolbox/lessons/live-bird/net"],
     "check": ["toolbox/lessons/three-ases.bgp"],
     "timeline": [SCRIPT, "198.51.100.0/24", "--router", "2.0.0.1"],
     "what-if": ["toolbox/lessons/drained-link.bgp", "toolbox/lessons/drained-link.change"], "from-frr": ["toolbox/lessons/frr"],

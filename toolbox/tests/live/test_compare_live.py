@@ -2,15 +2,15 @@
 an answer is found, and nothing else.
 
 The answers of FRR are those of the routers of `frr-cases/always-compare-med`, by tools/real-frr-cases; those of BIRD 2 of
-the two routers of `live/bird/net`. Times of updates are taken out of FRR's."""
+the two routers of `toolbox/lessons/live-bird/net`. Times of updates are taken out of FRR's."""
 import json
 import shutil
 
-from common import DATA, Case, inside
+from common import DATA, TOP, Case, inside
 
 LIVE = DATA / "live"
 FRR = DATA / "frr-cases" / "always-compare-med"
-BIRD = LIVE / "bird"
+BIRD = TOP / "toolbox" / "lessons" / "live-bird"
 
 
 class Answers(Case):
@@ -96,14 +96,14 @@ class Edited(Answers):
                  ("communities", "65001:7 65001:8", "65001:7")),
                 ("BGP.as_path: 65001", "BGP.as_path: 65001 65001", ("path", "65001,65001", "65001"))):
             with self.subTest(new=new):
-                answers = self.copy("bird/answers")
+                answers = self.copy(BIRD / "answers")
                 self.edited(answers / "east", old, new)
                 told = self.compared(answers, BIRD / "net")
                 self.assertEqual(self.differences(told), [("10.0.0.2", "192.0.2.0/24", None, [difference])])
             shutil.rmtree(answers)
 
     def test_a_route_of_one_of_them(self):
-        answers = self.copy("bird/answers")
+        answers = self.copy(BIRD / "answers")
         self.edited(answers / "east", "192.0.2.0/24", "192.0.2.0/25")
         told = self.compared(answers, BIRD / "net")
         self.assertEqual(self.differences(told), [("10.0.0.2", "192.0.2.0/24", "simulated", [])])
@@ -127,7 +127,7 @@ class Edited(Answers):
         self.assertEqual((told["agreed"], told["not_compared"]), (4, {"peer": 2, "next hop": 2}))
 
     def test_names_of_files_are_read_and_no_more(self):
-        answers = self.copy("bird/answers")
+        answers = self.copy(BIRD / "answers")
         (answers / "east").rename(answers / "--help; $(x)")
         told = self.compared(answers, BIRD / "net")
         self.assertEqual([(each["router"], each["prefix"]) for each in told["unknown"]], [("--help; $(x)", None)])
